@@ -1,0 +1,9 @@
+pub mod Whole
+pub mod TableP
+pub mod Walks
+pub mod Chains
+pub mod Meanings
+pub mod Ones
+pub mod Texts
+pub mod Numbers
+pub mod Statements

@@ -1,0 +1,19 @@
+-- Refusals (01, "What each number says"): a number, and the place that belongs to it.
+use Prim.Native.Nat.{ℕ, min}
+use Rattle.definitions.specs.Limits.{neededLimit}
+
+pub record Refusal : Type 0 where
+  pub number : ℕ
+  pub place : ℕ
+
+abbrev pub refusal : ℕ → ℕ → Refusal
+refusal n p = record { number = n; place = p }
+
+-- "A needed number above 18,446,744,073,709,551,615 is given as that one."
+unfoldable pub needed : ℕ → ℕ
+needed n = min n neededLimit
+
+-- a value, or the number of a refusal whose place the caller knows
+pub data Checked (A : Type 0) : Type 0 where
+  refuse : ℕ → Checked A
+  accept : A → Checked A
