@@ -11,10 +11,10 @@ use lib.IntN.{ℤ, pos, negsuc, negℤ, _+ℤ_, _-ℤ_, +ℤ-idr, +ℤ-idl, +ℤ
 use lib.Signed.{leZ}
 use Rattle.definitions.proofs.Whole.{up, dn, up-pos, dn-pos, up-negsuc, dn-negsuc, up-neg, dn-neg, sum-is, diff-is, one-side, same, le-same}
 use Rattle.definitions.specs.Literal.{negated, opposite, plain}
-use Rattle.definitions.specs.Row.{Term, Kind, atLeast, atMost, equal, objective, Row}
+use Rattle.definitions.specs.Row.{Term, weightOf, Kind, atLeast, atMost, equal, objective, Row}
 use Rattle.definitions.specs.Meaning.{isTrue, sumOf, holdsBy, holds, valueOf}
 use Rattle.definitions.specs.Normal.{moved, totalBy, shifted, normalBy, normalTerm, riseBy, rise, normal}
-use Rattle.definitions.specs.Write.{weightOf, flipTerm, flippedBy, flipped, plainTerm, fall, unnegated, printed}
+use Rattle.definitions.specs.Write.{flipTerm, flippedBy, flipped, plainTerm, fall, unnegated, printed}
 
 -- ---- literals
 

@@ -1,8 +1,9 @@
--- Laws of numbers in text: the digits at the front and their value, what `number` answers, the digits of a number, and that what is printed reads back.
+-- Laws of numbers in text: the digits at the front and their value, the sizes that 64 signed bits hold, what `number` answers, the digits of a number, and that
+-- what is printed reads back.
 use mathlib.Core.Path.{_≡_, refl, sym, _∙_}
 use mathlib.Core.Bool.{Bool, true, false, cond}
 use mathlib.Core.List.{List, [], _∷_, _++_, append-assoc, append-nil}
-use Prim.Native.Nat.{ℕ, zero, suc, _+_, _-_, _*_, _/_, _%_, _≤_, _<_}
+use Prim.Native.Nat.{ℕ, zero, suc, _+_, _-_, _*_, _/_, _%_, _^_, _≤_, _<_}
 use native.Mathlib.Nat.{zero-add}
 use native.Mathlib.Numerals.{one-add}
 use native.Mathlib.Omega.{arith}
@@ -18,7 +19,7 @@ use Rattle.definitions.specs.Limits.{inI64}
 use Rattle.definitions.specs.Bytes.{isDigit, plus, minus}
 use Rattle.definitions.specs.Reader.{Got, none, got}
 use Rattle.definitions.specs.Number.{leading, valueOn, value, signed, ended, number, decimalIn, decimal, integerText}
-use Rattle.definitions.proofs.Whole.{in-true, true-in}
+use Rattle.definitions.proofs.Whole.{abs-is, one-side, up-pos, dn-pos, up-neg, dn-neg, in-up, in-dn, is-in, in-true, true-in, over-up, over-dn}
 
 -- ---- the digits at the front, and their value
 
@@ -57,6 +58,29 @@ pub value-snoc : (a : ℕ) (s : List ℕ) (b : ℕ) → valueOn a (s ++ (b ∷ [
 unfolding valueOn
 value-snoc a [] b = refl
 value-snoc a (x ∷ s) b = value-snoc (a * 10 + (x - 48)) s b
+
+-- ---- the sizes that 64 signed bits hold
+
+-- the greatest one at a sign
+abbrev pub most : Bool → ℕ
+most true = 9_223_372_036_854_775_808
+most false = 9_223_372_036_854_775_807
+
+pub signed-within : (negative : Bool) (m : ℕ) → m ≤ most negative → inI64 (signed negative m) ≡ true
+signed-within true m h =
+    in-true _ (is-in _ (omega (arith, up-neg (pos m), dn-pos m)) (omega (arith, dn-neg (pos m), up-pos m)))
+signed-within false m h = in-true (pos m) (is-in (pos m) (omega (arith, up-pos m)) (omega (arith, dn-pos m)))
+
+pub within-signed : (negative : Bool) (m : ℕ) → inI64 (signed negative m) ≡ true → m ≤ most negative
+within-signed true m e = omega (arith, in-dn _ (true-in _ e), dn-neg (pos m), up-pos m)
+within-signed false m e = omega (arith, in-up _ (true-in (pos m) e), up-pos m)
+
+pub signed-beyond : (negative : Bool) (m : ℕ) → most negative < m → inI64 (signed negative m) ≡ false
+signed-beyond true m h = over-dn _ (omega (arith, dn-neg (pos m), up-pos m))
+signed-beyond false m h = over-up (pos m) (omega (arith, up-pos m))
+
+pub size-fits : (z : ℤ) → SFits w64 z → natAbs z ≤ 2 ^ 63
+size-fits z f = omega (arith, abs-is z, one-side z, in-up z f, in-dn z f)
 
 -- ---- what `number` answers
 
@@ -127,18 +151,18 @@ module _ {ℓ} (P : Got ℤ → Type ℓ) where
 none-is-no-got {ℓ} : {X : Type ℓ} {A : Type 0} {e : ℕ} {a : A} {n : ℕ} → none e ≡ got a n → X
 none-is-no-got p = let q : _≡_ {A = ℕ} 0 1 = cc in absurd (omega arith)
 
-pub number-within : (s : List ℕ) (z : ℤ) (n : ℕ) → number s ≡ got z n → (0 < n) × (n ≤ length s)
-number-within s z n =
+pub number-within : (s : List ℕ) {z : ℤ} {n : ℕ} → number s ≡ got z n → (0 < n) × (n ≤ length s)
+number-within s {z} {n} =
     number-is (λ g. g ≡ got z n → (0 < n) × (n ≤ length s)) s none-is-no-got
     (λ y m l h f e. let q : m ≡ n = cc in (omega arith, omega arith))
 
-pub number-fits : (s : List ℕ) (z : ℤ) (n : ℕ) → number s ≡ got z n → SFits w64 z
-number-fits s z n =
+pub number-fits : (s : List ℕ) {z : ℤ} {n : ℕ} → number s ≡ got z n → SFits w64 z
+number-fits s {z} {n} =
     number-is (λ g. g ≡ got z n → SFits w64 z) s none-is-no-got
     (λ y m l h f e. let q : y ≡ z = cc in rw q at (true-in y f))
 
-pub number-refused : (s : List ℕ) (e : ℕ) → number s ≡ none e → e ≡ 3
-number-refused s e =
+pub number-refused : (s : List ℕ) {e : ℕ} → number s ≡ none e → e ≡ 3
+number-refused s {e} =
     number-is (λ g. g ≡ none e → e ≡ 3) s (λ p. cc) (λ y m l h f p. none-is-no-got (sym p))
 
 -- ---- the digits of a number

@@ -56,7 +56,7 @@ within-gap1 = most-within gap1 (λ s. by s (blanks s) (blanks-within s))
     by s (suc k) h = h
 
 within-number : Within number
-within-number = record { most = λ s z n e. number-within s z n e .1 }
+within-number = record { most = λ s z n e. number-within s e .1 }
 
 module _ (o : Options) where
   most-digits : (negative : Bool) (s : List ℕ) → Most s (digits o negative s)
@@ -98,7 +98,7 @@ module _ (o : Options) where
   unfolding weighted
   weighted-least s t n e =
       let l = chain-linked number (λ w. afterWeight o w) s t n e in
-      omega (arith, number-within s (l .given) (l .taken) (l .here) .0, l .total)
+      omega (arith, number-within s (l .here) .0, l .total)
 
 -- ---- a sum: a walk over terms
 module _ (o : Options) where

@@ -15,7 +15,6 @@ use Rattle.definitions.specs.declared.Beginning.the-variants.{Comment, O
 use Rattle.definitions.specs.Bytes.{tab, lf, cr, space, star, letterM, isDigit, isSign, isBlank, classOf, begins, isAt, blanks, lineEnding, untilEnding}
 
 -- ---- within the text
-
 -- one more where a test holds, else none
 one-more : (t : Bool) (n m : ℕ) → n ≤ m → elim t [ true ↦ suc n | false ↦ zero ] ≤ suc m
 one-more true n m h = omega arith
@@ -53,7 +52,6 @@ until-within [] = omega arith
 until-within (b ∷ s) = until-more (lineEnding (b ∷ s)) (untilEnding s) (length s) (until-within s)
 
 -- ---- no blank is left in front
-
 past-blanks : (b : ℕ) (s : List ℕ) (t : Bool) → isBlank b ≡ t → blanks (drop (blanks s) s) ≡ 0 → blanks (drop (blanks (b ∷ s)) (b ∷ s)) ≡ 0
 unfolding blanks
 past-blanks b s true e h = rw (e, blanks) h
@@ -65,7 +63,6 @@ blanks-dropped [] = refl
 blanks-dropped (b ∷ s) = past-blanks b s (isBlank b) refl (blanks-dropped s)
 
 -- ---- a byte's tests and its class say the same
-
 either : (t u : Bool) → t || u ≡ true → (t ≡ true) ⊎ (u ≡ true)
 either true u e = inl refl
 either false u e = inr e
@@ -143,48 +140,48 @@ sameBeginning p q = eqb (order p) (order q)
 
 -- the test is the class: where the class of b is known, `rw` computes the right side
 module _ (b : ℕ) where
-  pub digit-is : isDigit b ≡ sameClass (classOf b) Digit
+  pub digit-is-class : isDigit b ≡ sameClass (classOf b) Digit
   unfolding classOf
-  digit-is = sym (simp (push rank, push (λ (n : ℕ). eqb n 0), both) (cond-self (isDigit b)))
+  digit-is-class = sym (simp (push rank, push (λ (n : ℕ). eqb n 0), both) (cond-self (isDigit b)))
 
-  pub blank-is : isBlank b ≡ sameClass (classOf b) Blank
+  pub blank-is-class : isBlank b ≡ sameClass (classOf b) Blank
   unfolding classOf
-  blank-is =
+  blank-is-class =
       decided (isBlank b) (sameClass (classOf b) Blank)
       (λ e. rw (blank-class b e))
       (λ e. rw e (simp (push rank, push (λ (n : ℕ). eqb n 2), both)))
 
-  pub star-is : eqb b star ≡ sameBeginning (begins (classOf b)) Comment
+  pub star-is-comment : eqb b star ≡ sameBeginning (begins (classOf b)) Comment
   unfolding classOf
-  star-is =
+  star-is-comment =
       decided (eqb b star) (sameBeginning (begins (classOf b)) Comment)
       (λ e. rw (eqb-true b star e))
       (λ e. rw e (simp (push begins, push order, push (λ (n : ℕ). eqb n 0), both)))
 
-  pub m-is : eqb b letterM ≡ sameBeginning (begins (classOf b)) Objective
+  pub m-is-objective : eqb b letterM ≡ sameBeginning (begins (classOf b)) Objective
   unfolding classOf
-  m-is =
+  m-is-objective =
       decided (eqb b letterM) (sameBeginning (begins (classOf b)) Objective)
       (λ e. rw (eqb-true b letterM e))
       (λ e. rw e (simp (push begins, push order, push (λ (n : ℕ). eqb n 1), both)))
 
-  pub digit-or-sign-is : isDigit b || isSign b ≡ sameBeginning (begins (classOf b)) Constraint
+  pub digit-or-sign-is-constraint : isDigit b || isSign b ≡ sameBeginning (begins (classOf b)) Constraint
   unfolding classOf
-  digit-or-sign-is = sym (simp (push begins, push order, push (λ (n : ℕ). eqb n 2), both) (cond-or (isDigit b) (isSign b)))
+  digit-or-sign-is-constraint = sym (simp (push begins, push order, push (λ (n : ℕ). eqb n 2), both) (cond-or (isDigit b) (isSign b)))
 
 -- from the class to the test
 module _ (b : ℕ) where
   pub class-digit : classOf b ≡ Digit → isDigit b ≡ true
-  class-digit e = digit-is b ∙ ap (λ (c : Class). sameClass c Digit) e
+  class-digit e = digit-is-class b ∙ ap (λ (c : Class). sameClass c Digit) e
 
   pub class-blank : classOf b ≡ Blank → isBlank b ≡ true
-  class-blank e = blank-is b ∙ ap (λ (c : Class). sameClass c Blank) e
+  class-blank e = blank-is-class b ∙ ap (λ (c : Class). sameClass c Blank) e
 
   pub begins-star : begins (classOf b) ≡ Comment → eqb b star ≡ true
-  begins-star e = star-is b ∙ ap (λ (p : Beginning). sameBeginning p Comment) e
+  begins-star e = star-is-comment b ∙ ap (λ (p : Beginning). sameBeginning p Comment) e
 
   pub begins-m : begins (classOf b) ≡ Objective → eqb b letterM ≡ true
-  begins-m e = m-is b ∙ ap (λ (p : Beginning). sameBeginning p Objective) e
+  begins-m e = m-is-objective b ∙ ap (λ (p : Beginning). sameBeginning p Objective) e
 
   pub begins-digit-or-sign : begins (classOf b) ≡ Constraint → isDigit b || isSign b ≡ true
-  begins-digit-or-sign e = digit-or-sign-is b ∙ ap (λ (p : Beginning). sameBeginning p Constraint) e
+  begins-digit-or-sign e = digit-or-sign-is-constraint b ∙ ap (λ (p : Beginning). sameBeginning p Constraint) e

@@ -37,5 +37,5 @@ unfoldable pub fileNumber : ℕ → ℕ → Checked ℕ
 fileNumber first v = cond (leb (v + first) fileNumberLimit) (accept (v + first)) (refuse 5)
 
 -- a literal of a variable, whose index has a code
-unfoldable pub literalOf : Bool → ℕ → Checked ℕ
-literalOf negative v = cond (isIndex v) (accept (codeOf negative v)) (refuse 5)
+unfoldable pub codeFor : Bool → ℕ → Checked ℕ
+codeFor negative v = cond (isIndex v) (accept (codeOf negative v)) (refuse 5)

@@ -11,6 +11,12 @@ pub record Term : Type 0 where
 abbrev pub term : ℤ → ℕ → Term
 term w c = record { weight = w; code = c }
 
+abbrev pub weightOf : Term → ℤ
+weightOf t = t .weight
+
+abbrev pub literalOf : Term → ℕ
+literalOf t = t .code
+
 pub data Kind : Type 0 where
   atLeast atMost equal objective : Kind
 

@@ -8,7 +8,7 @@ use lib.IntN.{ℤ, pos}
 use Rattle.definitions.specs.Lists.{over, joined}
 use Rattle.definitions.specs.Refusal.{Refusal, refusal, needed, Checked, refuse, accept}
 use Rattle.definitions.specs.Literal.{indexOf, isIndex}
-use Rattle.definitions.specs.Row.{Term, term, Kind, atLeast, atMost, equal, objective, Row, rowOf, Line, comment, row, termsOf}
+use Rattle.definitions.specs.Row.{Term, term, weightOf, literalOf, Kind, atLeast, atMost, equal, objective, Row, rowOf, Line, comment, row, termsOf}
 
 pub record Table : Type 0 where
   pub kinds : List ℕ
@@ -69,8 +69,8 @@ allTerms ls = joined termsOf ls
 unfoldable pub filled : List Line → Table → Table
 filled ls t =
     table (over (map kindIn ls) (t .kinds)) (over (firstsFrom 0 ls) (t .firsts)) (over (map countIn ls) (t .counts))
-    (over (map boundIn ls) (t .bounds)) (over (map (λ x. x .weight) (allTerms ls)) (t .weights))
-    (over (map (λ x. x .code) (allTerms ls)) (t .literals))
+    (over (map boundIn ls) (t .bounds)) (over (map weightOf (allTerms ls)) (t .weights))
+    (over (map literalOf (allTerms ls)) (t .literals))
 
 -- "9, then 10": "rows, terms do not fit", with the "count needed"
 unfoldable pub fitted : Table → Outcome (List Line) → Outcome (List Line)
@@ -79,6 +79,18 @@ fitted t (accepted ls) =
     cond (leb (length ls) (rowRoom t))
     (cond (leb (length (allTerms ls)) (termRoom t)) (accepted ls) (refused (refusal 10 (needed (length (allTerms ls))))))
     (refused (refusal 9 (needed (length ls))))
+
+-- what an accepted call answers: "rows and terms"
+pub record Totals : Type 0 where
+  pub rows : ℕ
+  pub terms : ℕ
+
+abbrev pub totalsOf : ℕ → ℕ → Totals
+totalsOf n m = record { rows = n; terms = m }
+
+abbrev pub counted : Outcome (List Line) → Outcome Totals
+counted (refused r) = refused r
+counted (accepted ls) = accepted (totalsOf (length ls) (length (allTerms ls)))
 
 -- what a table holds after a call: "A refused call changes nothing it was lent"
 unfoldable pub after : Outcome (List Line) → Table → Table

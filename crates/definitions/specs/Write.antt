@@ -12,7 +12,7 @@ use Rattle.definitions.specs.Refusal.{Refusal, refusal, needed, Checked,
 use Rattle.definitions.specs.Bytes.{minText, lf, space, star, semicolon, less, equals, greater, letterX, tilde}
 use Rattle.definitions.specs.Number.{integerText, decimal}
 use Rattle.definitions.specs.Literal.{indexOf, negated, opposite, plain, fileNumber}
-use Rattle.definitions.specs.Row.{Term, term, Kind, atLeast, atMost, equal, objective, Row, rowOf, sizes}
+use Rattle.definitions.specs.Row.{Term, term, weightOf, Kind, atLeast, atMost, equal, objective, Row, rowOf, sizes}
 use Rattle.definitions.specs.Table.{Table, Outcome, refused, accepted, Entry, entries, termsAt, inColumn, indexed, Sort, remark, clause, unknown, weighted, cardinality, sortOf, andThen, rowByRow}
 use Rattle.definitions.specs.declared.Mode.{Mode}
 use Rattle.definitions.specs.Normal.{totalBy, shifted}
@@ -22,9 +22,6 @@ use Rattle.definitions.specs.Normal.{totalBy, shifted}
 -- "An 'at most' row is written with each literal negated, `>=`, and bound = weight sum less bound."
 unfoldable pub flipTerm : Term → Term
 flipTerm t = term (t .weight) (opposite (t .code))
-
-abbrev pub weightOf : Term → ℤ
-weightOf t = t .weight
 
 abbrev pub flippedBy : Kind → ℤ → List Term → Row
 flippedBy atLeast b ts = rowOf atLeast b ts
