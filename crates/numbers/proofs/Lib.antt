@@ -1,0 +1,4 @@
+pub mod Signed
+pub mod Walk
+pub mod Print
+pub mod OneAnswer

@@ -1,0 +1,18 @@
+-- What the code's answer to printing says, and what a print leaves in the output.
+use mathlib.Core.Path.{_≡_}
+use Prim.Native.Nat.{ℕ}
+use mathlib.Core.List.{List}
+use Rattle.definitions.specs.Refusal.{Checked, refuse, accept}
+use Rattle.definitions.specs.Output.{putAt, putIn}
+use Rattle.numbers.specs.declared.Put.{Put}
+use Rattle.numbers.specs.declared.Put.the-variants.{Done, Full}
+
+-- the place behind the text; "output does not fit": 14
+abbrev pub put : Put → Checked ℕ
+put (Done n) = accept n
+put Full = refuse 14
+
+-- the text at a place of the output o: the answer, and the output after it
+pub record Prints (text : List ℕ) (at : ℕ) (o : List ℕ) (r : Put) (o′ : List ℕ) : Type 0 where
+  pub answer : put r ≡ putAt text at o
+  pub after : o′ ≡ putIn text at o

@@ -1,0 +1,221 @@
+// Integers in and out: a number at the front of a part of a file, and a number, a count or any text printed into a lent output.
+
+ghost use mathlib.Core.Path.{_≡_};
+ghost use mathlib.Core.Bool.{true};
+ghost use mathlib.Core.List.{_∷_, _++_};
+ghost use Prim.Native.Nat.{_+_, _<_, _≤_, _^_};
+ghost use lib.Dec.{leb};
+ghost use lib.ListN.{length, take, drop};
+ghost use lib.IntN.{natAbs};
+ghost use Rattle.definitions.specs.Limits.{inI64};
+ghost use Rattle.definitions.specs.Bytes.{minus};
+ghost use Rattle.definitions.specs.Number.{leading, signed, ended, number, decimal, integerText};
+ghost use Rattle.numbers.specs.Read.{said, runOf};
+ghost use Rattle.numbers.specs.Print.{Prints};
+
+// What stands at the front of a part: a number and how many bytes it takes, or none.
+pub enum NumberRead {
+    Number(i64, usize),
+    Missing,
+}
+
+// The digits at the front of a part: how many, and their value up to a cap.
+pub struct Run {
+    pub count: usize,
+    pub size: u64,
+}
+
+// The cap of specs/Read.antt: one more than signed 64 bits hold at either sign.
+const CAP: u64 = 9_223_372_036_854_775_809;
+
+pub fn read_run(s: &[u8]) -> Run
+    ensures { λ r. ⌜ r ≡ runOf (now (s .entry)) ⌝ }
+{
+    let mut i: usize = 0;
+    let mut m: u64 = 0;
+    while i < s.len() {
+        let b = s[i];
+        match b {
+            b'0'..=b'9' => {
+                // Ten times as much and a digit is at most the cap.
+                if m <= CAP / 10 {
+                    m = m * 10 + (b - b'0') as u64;
+                } else {
+                    m = CAP;
+                }
+            }
+            _ => return Run { count: i, size: m },
+        }
+        i += 1;
+    }
+    Run { count: i, size: m }
+}
+
+// The number of a sign and a size. The least number is reached from above, since its size is no signed number.
+fn signed_of(negative: bool, size: u64) -> i64
+    requires { ⌜ inI64 (signed negative size) ≡ true ⌝ }
+    ensures { λ r. ⌜ r ≡ signed negative size ⌝ }
+{
+    if negative {
+        if size == 0 {
+            0
+        } else {
+            let k = (size - 1) as i64;
+            let d = -k;
+            d - 1
+        }
+    } else {
+        size as i64
+    }
+}
+
+// A sign of k bytes, and behind it the digits at the front of s.
+fn read_signed(negative: bool, k: usize, s: &[u8]) -> NumberRead
+    requires { ⌜ k + length (now s) < 2 ^ 64 ⌝ }
+    ensures { λ r. ⌜ said r ≡ ended negative k (leading (now (s .entry))) ⌝ }
+{
+    let r = read_run(s);
+    let count = r.count;
+    let size = r.size;
+    if count == 0 {
+        return NumberRead::Missing;
+    }
+    let most = if negative {
+        9_223_372_036_854_775_808
+    } else {
+        9_223_372_036_854_775_807
+    };
+    if size > most {
+        return NumberRead::Missing;
+    }
+    let z = signed_of(negative, size);
+    NumberRead::Number(z, k + count)
+}
+
+pub fn read_number(s: &[u8]) -> NumberRead
+    ensures { λ r. ⌜ said r ≡ number (now (s .entry)) ⌝ }
+{
+    if s.len() == 0 {
+        return NumberRead::Missing;
+    }
+    match s[0] {
+        b'-' => read_signed(true, 1, &s[1..]),
+        b'+' => read_signed(false, 1, &s[1..]),
+        _ => read_signed(false, 0, s),
+    }
+}
+
+// The size of z. The least number has a size that is no signed number, so one is added before it is negated.
+pub fn magnitude(z: i64) -> u64
+    ensures { λ r. ⌜ r ≡ natAbs z ⌝ }
+{
+    if z < 0 {
+        let up = z + 1;
+        let down = -up;
+        let m = down as u64;
+        m + 1
+    } else {
+        z as u64
+    }
+}
+
+pub fn count_length(m: u64) -> usize
+    ensures { λ r. ⌜ r ≡ length (decimal m) ⌝ }
+{
+    let mut n: usize = 1;
+    let mut x = m;
+    while x >= 10 {
+        x = x / 10;
+        n += 1;
+    }
+    n
+}
+
+pub fn number_length(z: i64) -> usize
+    ensures { λ r. ⌜ r ≡ length (integerText z) ⌝ }
+{
+    let n = count_length(magnitude(z));
+    if z < 0 { n + 1 } else { n }
+}
+
+// The place behind a printed text, or no room for it.
+pub enum Put {
+    Done(usize),
+    Full,
+}
+
+// Whether n bytes from `at` on lie in an output of `room` bytes; the sum may be beyond 64 bits.
+fn has_room(n: usize, at: usize, room: usize) -> bool
+    ensures { λ r. ⌜ r ≡ leb (at + n) room ⌝ }
+{
+    if at > room {
+        return false;
+    }
+    n <= room - at
+}
+
+// The n digits of m, from `at` on, the last one first.
+fn put_digits(m: u64, out: &mut [u8], at: usize, n: usize)
+    requires { ⌜ (n ≡ length (decimal m)) × (at + n ≤ length (now out)) ⌝ }
+    ensures { λ _. ⌜ now (out .exit) ≡ take at (now (out .entry)) ++ (decimal m ++ drop (at + n) (now (out .entry))) ⌝ }
+{
+    let mut x = m;
+    let mut k = n;
+    while x >= 10 {
+        k -= 1;
+        out[at + k] = b'0' + (x % 10) as u8;
+        x = x / 10;
+    }
+    out[at] = b'0' + x as u8;
+}
+
+pub fn print_count(m: u64, out: &mut [u8], at: usize) -> Put
+    ensures { λ r. ⌜ Prints (decimal m) at (now (out .entry)) r (now (out .exit)) ⌝ }
+{
+    let n = count_length(m);
+    if !has_room(n, at, out.len()) {
+        return Put::Full;
+    }
+    put_digits(m, out, at, n);
+    Put::Done(at + n)
+}
+
+// The number below 0 whose size is m.
+fn print_negative(m: u64, out: &mut [u8], at: usize) -> Put
+    requires { ⌜ m ≤ 2 ^ 63 ⌝ }
+    ensures { λ r. ⌜ Prints (minus ∷ decimal m) at (now (out .entry)) r (now (out .exit)) ⌝ }
+{
+    let n = count_length(m);
+    if !has_room(n + 1, at, out.len()) {
+        return Put::Full;
+    }
+    out[at] = b'-';
+    put_digits(m, out, at + 1, n);
+    Put::Done(at + 1 + n)
+}
+
+pub fn print_number(z: i64, out: &mut [u8], at: usize) -> Put
+    ensures { λ r. ⌜ Prints (integerText z) at (now (out .entry)) r (now (out .exit)) ⌝ }
+{
+    let m = magnitude(z);
+    if z < 0 {
+        print_negative(m, out, at)
+    } else {
+        print_count(m, out, at)
+    }
+}
+
+pub fn print_text(text: &[u8], out: &mut [u8], at: usize) -> Put
+    ensures { λ r. ⌜ Prints (now (text .entry)) at (now (out .entry)) r (now (out .exit)) ⌝ }
+{
+    let n = text.len();
+    if !has_room(n, at, out.len()) {
+        return Put::Full;
+    }
+    let mut i: usize = 0;
+    while i < n {
+        out[at + i] = text[i];
+        i += 1;
+    }
+    Put::Done(at + n)
+}

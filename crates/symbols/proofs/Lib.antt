@@ -1,0 +1,4 @@
+pub mod Conversions
+pub mod Blanks
+pub mod Endings
+pub mod OneAnswer
