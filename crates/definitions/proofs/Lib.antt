@@ -7,3 +7,4 @@ pub mod Ones
 pub mod Texts
 pub mod Numbers
 pub mod Statements
+pub mod Parts

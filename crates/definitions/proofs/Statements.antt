@@ -172,7 +172,7 @@ least-min-word : (s : List ℕ) → Least (minWord s)
 unfolding minWord
 least-min-word s = got-cond (startsWith minText s) (got 0 (length minText)) (none 2) Least (omega arith) tt
 
-within-operator : Within operator
+pub within-operator : Within operator
 within-operator = most-within operator most-operator
 
 most-closing : (s : List ℕ) → Most s (closing s)
