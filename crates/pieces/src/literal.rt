@@ -10,7 +10,7 @@ ghost use mathlib.Core.Path.{_≡_};
 ghost use Rattle.definitions.specs.Text.{digits, variable, literal};
 ghost use Rattle.pieces.specs.Said.{saidLiteral};
 
-// "no blank after a weight, or no literal there"
+// "no literal there"
 const NO_LITERAL: u8 = 4;
 
 // "file number beyond u32, below the first index, or index above its limit"

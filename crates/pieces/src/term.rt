@@ -18,7 +18,7 @@ pub enum TermRead {
     Refused(u8),
 }
 
-// What follows a weight: blanks, literal, blanks.
+// What follows a weight: blanks, literal, blanks. 4: "no blank after a weight".
 fn read_weighted(s: &[u8], options: Options, weight: i64) -> TermRead
     ensures { λ r. ⌜ saidTerm r ≡ afterWeight options weight (now (s .entry)) ⌝ }
 {
