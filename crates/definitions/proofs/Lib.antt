@@ -8,3 +8,5 @@ pub mod Texts
 pub mod Numbers
 pub mod Statements
 pub mod Parts
+pub mod Tables
+pub mod ReadRows

@@ -106,7 +106,7 @@ module _ (o : Options) where
   as-step-item (none e) a n q = let z : _≡_ {A = ℕ} 0 1 = cc in absurd (omega arith)
   as-step-item (got b m) a n q = let x : b ≡ a = cc in let y : m ≡ n = cc in cc
 
-  term-step-item : (s : List ℕ) (t : Term) (n : ℕ) → termStep o s ≡ item t n → weighted o s ≡ got t n
+  pub term-step-item : (s : List ℕ) (t : Term) (n : ℕ) → termStep o s ≡ item t n → weighted o s ≡ got t n
   unfolding termStep
   term-step-item s t n e = by (beginsTerm s) refl
     where

@@ -17,3 +17,4 @@ pub mod Evaluate
 pub mod Write
 pub mod Document
 pub mod TableP
+pub mod House

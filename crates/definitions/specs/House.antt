@@ -1,0 +1,43 @@
+-- The house lines of the listing program (01, "Examples on each side"): "House lines are parted by tabs"; "The first line is rows, terms, first index; `c` gives the text's length;
+-- equal is `eq`. A refusal prints `refused`, number, place alone."
+use Prim.Native.Nat.{ℕ}
+use mathlib.Core.List.{List, [], _∷_, _++_}
+use lib.ListN.{length}
+use lib.IntN.{ℤ}
+use Rattle.definitions.specs.Lists.{joined}
+use Rattle.definitions.specs.Refusal.{Refusal}
+use Rattle.definitions.specs.Bytes.{tab, lf}
+use Rattle.definitions.specs.Number.{decimal, integerText}
+use Rattle.definitions.specs.Row.{Term, Kind, atLeast, atMost, equal, objective, Row, Line, comment, row}
+use Rattle.definitions.specs.Table.{Outcome, refused, accepted, allTerms}
+use Rattle.definitions.specs.Write.{literalText}
+
+-- a field behind another
+abbrev pub field : List ℕ → List ℕ
+field s = tab ∷ s
+
+-- `ge`, `le`, `eq`, `min`
+abbrev pub kindWord : Kind → List ℕ
+kindWord atLeast = 103 ∷ 101 ∷ []
+kindWord atMost = 108 ∷ 101 ∷ []
+kindWord equal = 101 ∷ 113 ∷ []
+kindWord objective = 109 ∷ 105 ∷ 110 ∷ []
+
+unfoldable pub termFields : ℕ → Term → List ℕ
+termFields first t = field (integerText (t .weight)) ++ field (literalText first (t .code))
+
+unfoldable pub houseLine : ℕ → Line → List ℕ
+houseLine first (comment f n b) = (99 ∷ []) ++ (field (decimal n) ++ (lf ∷ []))
+houseLine first (row r) = kindWord (r .kind) ++ (field (integerText (r .bound)) ++ (joined (termFields first) (r .terms) ++ (lf ∷ [])))
+
+-- `opb`
+unfoldable pub headLine : ℕ → List Line → List ℕ
+headLine first ls = (111 ∷ 112 ∷ 98 ∷ []) ++ (field (decimal (length ls)) ++ (field (decimal (length (allTerms ls))) ++ (field (decimal first) ++ (lf ∷ []))))
+
+-- `refused`
+unfoldable pub refusedLine : Refusal → List ℕ
+refusedLine r = (114 ∷ 101 ∷ 102 ∷ 117 ∷ 115 ∷ 101 ∷ 100 ∷ []) ++ (field (decimal (r .number)) ++ (field (decimal (r .place)) ++ (lf ∷ [])))
+
+unfoldable pub listing : ℕ → Outcome (List Line) → List ℕ
+listing first (refused r) = refusedLine r
+listing first (accepted ls) = headLine first ls ++ joined (houseLine first) ls
