@@ -2,15 +2,15 @@
 -- equal is `eq`. A refusal prints `refused`, number, place alone."
 use Prim.Native.Nat.{ℕ}
 use mathlib.Core.List.{List, [], _∷_, _++_}
-use lib.ListN.{length}
+use lib.ListN.{length, take}
 use lib.IntN.{ℤ}
 use Rattle.definitions.specs.Lists.{joined}
 use Rattle.definitions.specs.Refusal.{Refusal}
 use Rattle.definitions.specs.Bytes.{tab, lf}
 use Rattle.definitions.specs.Number.{decimal, integerText}
 use Rattle.definitions.specs.Row.{Term, Kind, atLeast, atMost, equal, objective, Row, Line, comment, row}
-use Rattle.definitions.specs.Table.{Outcome, refused, accepted, allTerms}
-use Rattle.definitions.specs.Write.{literalText}
+use Rattle.definitions.specs.Table.{Table, Outcome, refused, accepted, allTerms, entries, rowByRow, lineIn}
+use Rattle.definitions.specs.Write.{literalText, fittedText}
 
 -- a field behind another
 abbrev pub field : List ℕ → List ℕ
@@ -41,3 +41,11 @@ refusedLine r = (114 ∷ 101 ∷ 102 ∷ 117 ∷ 115 ∷ 101 ∷ 100 ∷ []) ++ 
 unfoldable pub listing : ℕ → Outcome (List Line) → List ℕ
 listing first (refused r) = refusedLine r
 listing first (accepted ls) = headLine first ls ++ joined (houseLine first) ls
+
+-- ---- the house lines of the first n rows of a table, into an output of so many bytes: 11 at a row that no table may hold, 14 where the lines do not fit
+abbrev pub listedIn : ℕ → ℕ → Outcome (List Line) → Outcome (List ℕ)
+listedIn first room (refused r) = refused r
+listedIn first room (accepted ls) = fittedText room (listing first (accepted ls))
+
+unfoldable pub listingTable : ℕ → ℕ → Table → ℕ → Outcome (List ℕ)
+listingTable first n t room = listedIn first room (rowByRow (lineIn t) 0 (take n (entries t)))
