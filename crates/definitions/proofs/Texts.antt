@@ -63,7 +63,7 @@ blanks-dropped [] = refl
 blanks-dropped (b ∷ s) = past-blanks b s (isBlank b) refl (blanks-dropped s)
 
 -- ---- a byte's tests and its class say the same
-either : (t u : Bool) → t || u ≡ true → (t ≡ true) ⊎ (u ≡ true)
+pub either : (t u : Bool) → t || u ≡ true → (t ≡ true) ⊎ (u ≡ true)
 either true u e = inl refl
 either false u e = inr e
 

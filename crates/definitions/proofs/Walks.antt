@@ -19,7 +19,7 @@ abbrev pub onto : {A : Type 0} → List A → Walked A → Walked A
 onto pre (broken r) = broken r
 onto pre (items xs e) = items (pre ++ xs) e
 
-onto-none : {A : Type 0} (o : Walked A) → o ≡ onto [] o
+pub onto-none : {A : Type 0} (o : Walked A) → o ≡ onto [] o
 onto-none (broken r) = refl
 onto-none (items xs e) = refl
 

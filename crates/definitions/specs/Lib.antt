@@ -18,3 +18,6 @@ pub mod Write
 pub mod Document
 pub mod TableP
 pub mod House
+pub mod Back
+pub mod Pieces
+pub mod DocumentRead

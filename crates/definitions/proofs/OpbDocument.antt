@@ -1,0 +1,32 @@
+-- The OPB document: every file of the document's own linear grammar that is within 01's limits is accepted, read from first index 1. Its statements come back one for one, in order: comment
+-- for comment, and each constraint and objective means what the document says, for every assignment of its variables. (specs/Document.antt has the document's grammar and meaning,
+-- specs/DocumentRead.antt the words for how it is read.)
+use mathlib.Core.Path.{_≡_, ap}
+use mathlib.Core.List.{List}
+use borrow.Author.Tests.{le-leb}
+use lib.ListN.{length}
+use Rattle.definitions.specs.Limits.{fileLimit}
+use Rattle.definitions.specs.Row.{Line}
+use Rattle.definitions.specs.Table.{accepted}
+use Rattle.definitions.specs.File.{linesOf, file}
+use Rattle.definitions.specs.Back.{Paired}
+use Rattle.definitions.specs.Document.{File, WellFormed, statementsOf, fileText}
+use Rattle.definitions.specs.DocumentRead.{fromOne, WithinLimits, Says}
+use Rattle.definitions.proofs.DocumentStatements.{mostOf, linesFrom, document-statements, statements-say, fair-file}
+
+pub record DocumentRead (f : File) : Type 0 where
+  pub lines : List Line
+  -- the file is accepted
+  pub read : file fromOne (fileText f) ≡ accepted lines
+  -- one line for each statement, in order, that says what the statement says
+  pub says : Paired (Says (fileText f)) (statementsOf f) lines
+
+pub document-read : (f : File) → WellFormed f → WithinLimits f → DocumentRead f
+unfolding file fileText
+document-read f w l =
+    let fair = fair-file f w l in
+    record {
+      lines = linesFrom 0 (statementsOf f);
+      read = rw (le-leb (length (fileText f)) fileLimit (l .file)) (ap linesOf (document-statements (mostOf f) (statementsOf f) fair));
+      says = statements-say (mostOf f) (statementsOf f) fair;
+    }

@@ -1,0 +1,60 @@
+-- Where does `statement` find nothing, or refuse? Behind the blanks: at the end of the text, or before it.
+use Prim.Native.Nat.{ℕ, _<_}
+use mathlib.Core.Path.{_≡_, refl}
+use mathlib.Core.Bool.{Bool, true, false}
+use mathlib.Core.List.{List, [], _∷_}
+use native.Mathlib.Omega.{arith}
+use lib.ListN.{length, take, drop, length-drop}
+use lib.Seq.{take-all}
+use Rattle.definitions.specs.Lists.{AllOf}
+use Rattle.definitions.specs.Bytes.{isBlank, blanks, begins, classOf}
+use Rattle.definitions.specs.Reader.{Got, none, got}
+use Rattle.definitions.specs.Walk.{stop, bad}
+use Rattle.definitions.specs.Row.{Line, comment, row}
+use Rattle.definitions.specs.Text.{statementBy, afterBlanks, statementAt, statement}
+use Rattle.definitions.specs.Pieces.{Blank}
+use Rattle.definitions.specs.declared.Options.{Options}
+
+pub all-blank : (s : List ℕ) → AllOf Blank (take (blanks s) s)
+unfolding blanks
+all-blank [] = tt
+all-blank (b ∷ s) = by (isBlank b) refl (all-blank s)
+  where
+    by : (t : Bool) → isBlank b ≡ t → AllOf Blank (take (blanks s) s) → AllOf Blank (take (blanks (b ∷ s)) (b ∷ s))
+    by true e h = rw (e, blanks) (e, h)
+    by false e h = rw (e, blanks) tt
+
+after-is-no-stop : (k : ℕ) (g : Got Line) → afterBlanks k g ≡ stop → ⊥
+after-is-no-stop k (none e) q = let z : _≡_ {A = ℕ} 0 1 = cc in omega arith
+after-is-no-stop k (got (comment f n b) m) q = let z : _≡_ {A = ℕ} 0 1 = cc in omega arith
+after-is-no-stop k (got (row r) m) q = let z : _≡_ {A = ℕ} 0 1 = cc in omega arith
+
+after-is-bad : (k : ℕ) (g : Got Line) (n j : ℕ) → afterBlanks k g ≡ bad n j → j ≡ k
+after-is-bad k (none e) n j q = cc
+after-is-bad k (got (comment f i b) m) n j q = let z : _≡_ {A = ℕ} 0 1 = cc in absurd (omega arith)
+after-is-bad k (got (row r) m) n j q = let z : _≡_ {A = ℕ} 0 1 = cc in absurd (omega arith)
+
+module _ (o : Options) where
+  nothing-left : (k : ℕ) (s : List ℕ) → statementAt o k s ≡ stop → length s ≡ 0
+  unfolding statementAt
+  nothing-left k [] e = refl
+  nothing-left k (b ∷ s) e = absurd (after-is-no-stop k (statementBy (begins (classOf b)) o (b ∷ s)) e)
+
+  something-left : (k : ℕ) (s : List ℕ) (n j : ℕ) → statementAt o k s ≡ bad n j → (0 < length s) × (j ≡ k)
+  unfolding statementAt
+  something-left k [] n j e = let z : _≡_ {A = ℕ} 0 1 = cc in absurd (omega arith)
+  something-left k (b ∷ s) n j e = (omega arith, after-is-bad k (statementBy (begins (classOf b)) o (b ∷ s)) n j e)
+
+  -- where nothing is found, there are blanks alone
+  pub stop-is-blank : (s : List ℕ) → statement o s ≡ stop → AllOf Blank s
+  unfolding statement
+  stop-is-blank s e =
+      let n = nothing-left (blanks s) (drop (blanks s) s) e in
+      rw (take-all (blanks s) s (omega (arith, length-drop (blanks s) s))) at (all-blank s)
+
+  -- a refusal is behind the blanks, and some text is left there
+  pub bad-is-behind : (s : List ℕ) (n k : ℕ) → statement o s ≡ bad n k → (k ≡ blanks s) × (blanks s < length s)
+  unfolding statement
+  bad-is-behind s n k e =
+      let h = something-left (blanks s) (drop (blanks s) s) n k e in
+      (h .1, omega (arith, h .0, length-drop (blanks s) s))

@@ -1,0 +1,62 @@
+-- There and back: take any table whose rows the writer accepts, in either literal mode. If the written file is within the length limit and the tables have room, reading it with
+-- the same first index succeeds; constraints and objectives come back one for one, in order; for every assignment each constraint holds exactly when the original held, and each
+-- objective's value plus the offset printed for it (zero where none is) equals the original value with its own offset. All sums are exact whole numbers. (An assignment gives every
+-- variable a value, so each covers the rows' variables. specs/Back.antt has the words.)
+use Prim.Native.Nat.{ℕ, _≤_}
+use mathlib.Core.Path.{_≡_, ap, _∙_}
+use mathlib.Core.List.{List}
+use borrow.Author.Tests.{le-leb}
+use lib.ListN.{length}
+use Rattle.definitions.specs.Lists.{joined}
+use Rattle.definitions.specs.Limits.{fileLimit}
+use Rattle.definitions.specs.Row.{Line}
+use Rattle.definitions.specs.Table.{Table, accepted, allTerms, rowRoom, termRoom, entries, rowByRow, fitted}
+use Rattle.definitions.specs.File.{linesOf, file, reading}
+use Rattle.definitions.specs.Write.{Item, itemText, writtenIn, writing}
+use Rattle.definitions.specs.Back.{optionsOf, Paired, rowsAsked, rowsIn, Means, Back}
+use Rattle.definitions.specs.declared.Mode.{Mode}
+use Rattle.definitions.proofs.Accepted.{WritableItem, rows-accepted, item-writable}
+use Rattle.definitions.proofs.ItemsBack.{linesFrom, written-statements}
+use Rattle.definitions.proofs.MeansBack.{writing-asked, groupsFrom, groups-lines, items-back, rows-back}
+
+pub record ThereAndBack (m : Mode) (t : Table) (text s : List ℕ) : Type 0 where
+  -- what was asked for, one item for each row of the table, all accepted
+  pub items : List Item
+  pub asked : rowByRow (writtenIn m t text) 0 (entries t) ≡ accepted items
+  -- and the file is their texts
+  pub written : s ≡ joined (itemText m) items
+  -- the lines that come back, the same for all tables that they are read into
+  pub lines : List Line
+  -- reading refuses nothing but a table without room (9, 10)
+  pub read : length s ≤ fileLimit → (T : Table) → reading (optionsOf m) s T ≡ fitted T (accepted lines)
+  -- so it succeeds where there is room
+  pub succeeds : length s ≤ fileLimit → (T : Table) → length lines ≤ rowRoom T → length (allTerms lines) ≤ termRoom T → reading (optionsOf m) s T ≡ accepted lines
+  -- constraints and objectives come back one for one, in order, and mean what they meant
+  pub rows : Paired (Means m) (rowsAsked items) (rowsIn lines)
+  -- and all lines belong to the items, in order: a comment to its comment, the line of an offset to its objective
+  pub groups : List (List Line)
+  pub grouped : lines ≡ joined (λ (g : List Line). g) groups
+  pub each : Paired (Back m s) items groups
+
+-- of items that were asked for and written
+items-back-again : (m : Mode) (t : Table) (text s : List ℕ) (is : List Item) → rowByRow (writtenIn m t text) 0 (entries t) ≡ accepted is → s ≡ joined (itemText m) is → ThereAndBack m t text s
+unfolding reading file fitted
+items-back-again m t text s is a w =
+    let good = rows-accepted (writtenIn m t text) (WritableItem m) (item-writable m t text) 0 (entries t) is a in
+    let back : Paired (Back m s) is (groupsFrom m 0 is) = rw w (items-back m is) in
+    let whole : length s ≤ fileLimit → file (optionsOf m) s ≡ accepted (linesFrom m 0 is) = λ h. rw (le-leb (length s) fileLimit h) (rw w (ap linesOf (written-statements m is good))) in
+    record {
+      items = is;
+      asked = a;
+      written = w;
+      lines = linesFrom m 0 is;
+      read = λ h T. ap (fitted T) (whole h);
+      succeeds = λ h T r n. ap (fitted T) (whole h) ∙ rw (le-leb (length (linesFrom m 0 is)) (rowRoom T) r, le-leb (length (allTerms (linesFrom m 0 is))) (termRoom T) n);
+      rows = rw (groups-lines m 0 is) (rows-back m s back);
+      groups = groupsFrom m 0 is;
+      grouped = groups-lines m 0 is;
+      each = back;
+    }
+
+pub there-and-back : (m : Mode) (t : Table) (text : List ℕ) (room : ℕ) (s : List ℕ) → writing m t text room ≡ accepted s → ThereAndBack m t text s
+there-and-back m t text room s e = let k = writing-asked m t text room s e in items-back-again m t text s (k .items) (k .asked) (k .written)

@@ -1,0 +1,94 @@
+-- The whole file is read. An accepted file is its statements, one piece for each line, and blanks behind them; a refused one is broken at a place that lies in it, and all before that
+-- place is whole statements and blanks. So no byte is left out. (specs/Pieces.antt has the words.)
+use Prim.Native.Nat.{ℕ, _+_, _≤_, _<_}
+use mathlib.Core.Path.{_≡_, ap}
+use mathlib.Core.Logic.{_⊎_, inl, inr, ⊎-elim}
+use mathlib.Core.List.{List, _++_}
+use native.Mathlib.Omega.{arith}
+use lib.ListN.{length, take, drop, length-append, take-append-drop}
+use lib.Seq.{length-take-le}
+use Rattle.definitions.specs.Lists.{AllOf}
+use Rattle.definitions.specs.Limits.{fileLimit}
+use Rattle.definitions.specs.Refusal.{Refusal, refusal}
+use Rattle.definitions.specs.Bytes.{blanks}
+use Rattle.definitions.specs.Walk.{bad, broken, items}
+use Rattle.definitions.specs.Row.{Line}
+use Rattle.definitions.specs.Text.{statement, inFile}
+use Rattle.definitions.specs.Table.{refused, accepted}
+use Rattle.definitions.specs.File.{statements, file}
+use Rattle.definitions.specs.Pieces.{together, Blank, Pieces}
+use Rattle.definitions.specs.declared.Options.{Options}
+use Rattle.definitions.proofs.Texts.{blanks-within}
+use Rattle.definitions.proofs.Statements.{statement-moves}
+use Rattle.definitions.proofs.PieceByPiece.{ended-items, ended-broken, all-through}
+use Rattle.definitions.proofs.FileAnswers.{file-accepted, file-refused}
+use Rattle.definitions.proofs.Stops.{all-blank, stop-is-blank, bad-is-behind}
+
+pub record WholeFile (o : Options) (s : List ℕ) (ls : List Line) : Type 0 where
+  pub pieces : List (List ℕ)
+  pub tail : List ℕ
+  -- the file is the pieces and the tail
+  pub whole : s ≡ together pieces ++ tail
+  -- one piece for each line, in order: exactly the bytes that `statement` takes there
+  pub each : Pieces (statement o) inFile 0 pieces tail ls
+  -- the tail is blanks alone
+  pub blank : AllOf Blank tail
+
+pub record BrokenFile (o : Options) (s : List ℕ) (r : Refusal) : Type 0 where
+  pub pieces : List (List ℕ)
+  pub lines : List Line
+  pub gap : List ℕ
+  pub rest : List ℕ
+  -- the file is the pieces of whole statements, blanks, and the rest that is refused
+  pub whole : s ≡ together pieces ++ (gap ++ rest)
+  pub each : Pieces (statement o) inFile 0 pieces (gap ++ rest) lines
+  pub blank : AllOf Blank gap
+  -- the place is where that rest begins, and lies in the file
+  pub place : r .place ≡ length (together pieces ++ gap)
+  pub within : r .place < length s
+  -- there `statement` answers the number
+  pub answer : statement o (gap ++ rest) ≡ bad (r .number) (length gap)
+
+pub accepted-is-whole : (o : Options) (s : List ℕ) (ls : List Line) (n : ℕ) → statements o s ≡ items ls n → WholeFile o s ls
+unfolding statements
+accepted-is-whole o s ls n e =
+    let t = all-through (statement o) inFile (statement-moves o) s in
+    let q = ended-items (statement o) inFile (statement-moves o) ls n (t .ended) e in
+    record {
+      pieces = t .pieces;
+      tail = t .rest;
+      whole = t .whole;
+      each = rw (q .0) at (t .each);
+      blank = stop-is-blank o (t .rest) (q .2);
+    }
+
+pub refused-is-broken : (o : Options) (s : List ℕ) (r : Refusal) → statements o s ≡ broken r → BrokenFile o s r
+unfolding statements
+refused-is-broken o s r e =
+    let t = all-through (statement o) inFile (statement-moves o) s in
+    let q = ended-broken (statement o) inFile (statement-moves o) r (t .ended) e in
+    let k = blanks (t .rest) in
+    let b = bad-is-behind o (t .rest) (r .number) (q .behind) (q .answer) in
+    let seam = take-append-drop k (t .rest) in
+    let size : length (take k (t .rest)) ≡ k = length-take-le k (t .rest) (blanks-within (t .rest)) in
+    record {
+      pieces = t .pieces;
+      lines = t .found;
+      gap = take k (t .rest);
+      rest = drop k (t .rest);
+      whole = rw seam (t .whole);
+      each = rw seam (t .each);
+      blank = all-blank (t .rest);
+      place = omega (arith, q .spot, b .0, size, length-append (together (t .pieces)) (take k (t .rest)));
+      within = omega (arith, q .spot, b .0, b .1, ap length (t .whole), length-append (together (t .pieces)) (t .rest));
+      answer = rw (seam, size) (rw (b .0) at (q .answer));
+    }
+
+-- ---- the same of `file`, which has the limit on the length (1)
+
+module _ (o : Options) (s : List ℕ) where
+  pub file-is-whole : (ls : List Line) → file o s ≡ accepted ls → (length s ≤ fileLimit) × WholeFile o s ls
+  file-is-whole ls e = let f = file-accepted o s ls e in (f .within, accepted-is-whole o s ls (f .end) (f .found))
+
+  pub file-is-broken : (r : Refusal) → file o s ≡ refused r → ((fileLimit < length s) × (r ≡ refusal 1 0)) ⊎ BrokenFile o s r
+  file-is-broken r e = ⊎-elim (λ long. inl long) (λ b. inr (refused-is-broken o s r b)) (file-refused o s r e)
