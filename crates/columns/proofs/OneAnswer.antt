@@ -1,0 +1,34 @@
+-- Each public function has one possible answer for each input: two that its contract allows are equal. None changes what it is lent.
+use mathlib.Core.Path.{_≡_, sym, _∙_}
+use Rattle.columns.proofs.lesser.Reads as lesser
+use Rattle.columns.proofs.row_room.Reads as row-room
+use Rattle.columns.proofs.term_room.Reads as term-room
+use Rattle.columns.proofs.in_column.Reads as in-column
+use Rattle.columns.proofs.indexed_of.Reads as indexed-of
+use Rattle.columns.proofs.add_size.Reads as add-size
+use Rattle.columns.proofs.sizes_of.Reads as sizes-of
+use Rattle.columns.proofs.sum_fits.Reads as sum-fits
+
+pub lesser-one : (κs : _) (a : _) (r r' : _) (s s' : _) → lesser.Post κs a r s → lesser.Post κs a r' s' → r ≡ r'
+lesser-one κs a r r' s s' p q = p ∙ sym q
+
+pub row-room-one : (κs : _) (a : _) (r r' : _) (s s' : _) → row-room.Post κs a r s → row-room.Post κs a r' s' → r ≡ r'
+row-room-one κs a r r' s s' p q = p ∙ sym q
+
+pub term-room-one : (κs : _) (a : _) (r r' : _) (s s' : _) → term-room.Post κs a r s → term-room.Post κs a r' s' → r ≡ r'
+term-room-one κs a r r' s s' p q = p ∙ sym q
+
+pub in-column-one : (κs : _) (a : _) (r r' : _) (s s' : _) → in-column.Post κs a r s → in-column.Post κs a r' s' → r ≡ r'
+in-column-one κs a r r' s s' p q = p ∙ sym q
+
+pub indexed-of-one : (κs : _) (a : _) (r r' : _) (s s' : _) → indexed-of.Post κs a r s → indexed-of.Post κs a r' s' → r ≡ r'
+indexed-of-one κs a r r' s s' p q = p ∙ sym q
+
+pub add-size-one : (κs : _) (a : _) (r r' : _) (s s' : _) → add-size.Post κs a r s → add-size.Post κs a r' s' → r ≡ r'
+add-size-one κs a r r' s s' p q = p ∙ sym q
+
+pub sizes-of-one : (κs : _) (a : _) (r r' : _) (s s' : _) → sizes-of.Post κs a r s → sizes-of.Post κs a r' s' → r ≡ r'
+sizes-of-one κs a r r' s s' p q = p ∙ sym q
+
+pub sum-fits-one : (κs : _) (a : _) (r r' : _) (s s' : _) → sum-fits.Post κs a r s → sum-fits.Post κs a r' s' → r ≡ r'
+sum-fits-one κs a r r' s s' p q = p ∙ sym q

@@ -1,0 +1,70 @@
+-- `columns::indexed_of` meets its contract. The loop's invariant: what is left of the codes decides. The measure is what is left of the length.
+-- Assumes nothing.
+use mathlib.Core.Path.{_≡_, refl, sym, _∙_}
+use Prim.Native.Nat.{_≤_, _-_}
+use native.Mathlib.Omega.{arith}
+use borrow.Author.Needs.{needs}
+use borrow.Author.Tests.{le-leb, lt-leb}
+use denote.Ref.{now}
+use lib.ListN.{length, getD, drop}
+use Rattle.definitions.specs.Limits.{indexLimit}
+use Rattle.definitions.specs.Literal.{indexOf}
+use Rattle.columns.specs.Parts.{codesIndexed}
+use Rattle.columns.proofs.Every.{every-end, every-fails, every-passes}
+use Rattle.columns.proofs.indexed_of.Statement.{statement}
+use Rattle.columns.proofs.indexed_of.Tie as tie
+
+abbrev Inv-loop : tie.InvT-loop
+Inv-loop literals i₀ i = (i ≤ length literals) × (codesIndexed literals ≡ codesIndexed (drop i literals))
+
+abbrev μ-loop : tie.MeasureT-loop
+μ-loop literals i₀ i = length literals - i
+
+loop-holds : tie.Need-loop-holds Inv-loop μ-loop
+loop-holds c = (omega arith, refl)
+
+mul-t4 : tie.Need-mul-t4 Inv-loop μ-loop
+mul-t4 c = omega arith
+
+shared-slice-read-t7 : tie.Need-shared-slice-read-t7 Inv-loop μ-loop
+shared-slice-read-t7 c = omega arith
+
+var-requires : tie.Need-var-requires Inv-loop μ-loop
+var-requires c κs = search needs
+
+returns : tie.Need-returns Inv-loop μ-loop
+returns c =
+    let l = c .before .before .before .before .before .loop in
+    let cs = now (c .before .before .before .before .before .before .before .args .literals) in
+    sym (l .inv .1 ∙ every-fails _ cs (l .i) (omega arith) (lt-leb (indexOf (getD cs (l .i) 0)) indexLimit (omega arith)))
+
+add-i : tie.Need-add-i Inv-loop μ-loop
+add-i c = omega arith
+
+loop-less : tie.Need-loop-less Inv-loop μ-loop
+loop-less c = omega arith
+
+loop-again : tie.Need-loop-again Inv-loop μ-loop
+loop-again c =
+    let l = c .before .before .before .before .before .loop in
+    let cs = now (c .before .before .before .before .before .before .before .args .literals) in
+    (omega arith, l .inv .1 ∙ every-passes _ cs (l .i) (omega arith) (le-leb (indexOf (getD cs (l .i) 0)) indexLimit (omega arith)))
+
+returns-2 : tie.Need-returns-2 Inv-loop μ-loop
+returns-2 c = let l = c .before .loop in sym (l .inv .1 ∙ every-end _ _ (l .i) (c .loop-test .left))
+
+pub indexed-of-spec : {M : Type 1} → statement M
+indexed-of-spec =
+    tie.close
+    (tie.spec
+    Inv-loop
+    μ-loop
+    loop-holds
+    mul-t4
+    shared-slice-read-t7
+    var-requires
+    returns
+    add-i
+    loop-less
+    loop-again
+    returns-2)

@@ -1,0 +1,102 @@
+// What is asked of rows and terms in lent columns: how many there is room for, whether a row's terms lie in their columns, whether its variables are within
+// the limit, and how large its weights are together (01, "Numbers and tables"). Reader, normaliser, evaluator and writer ask it alike. Assumes nothing.
+use symbols::Lit;
+ghost use mathlib.Core.Path.{_≡_};
+ghost use Prim.Native.Nat.{_+_, min};
+ghost use lib.Dec.{leb};
+ghost use lib.ListN.{length};
+ghost use lib.IntN.{natAbs, _+ℤ_};
+ghost use Rattle.definitions.specs.Limits.{inI64};
+ghost use Rattle.columns.specs.Sizes.{capped};
+ghost use Rattle.columns.specs.Parts.{codesIndexed, weightSizes};
+
+// "variable index: 1,073,741,823"
+const INDEX_LIMIT: u32 = 1_073_741_823;
+
+// The cap of specs/Sizes.antt: one more than M.
+const SIZE_CAP: u64 = 9_223_372_036_854_775_808;
+
+// "bound, weight: signed 64 bits"
+const LEAST: i64 = -9_223_372_036_854_775_808;
+
+const GREATEST: i64 = 9_223_372_036_854_775_807;
+
+pub fn lesser(a: usize, b: usize) -> usize
+    ensures { λ r. ⌜ r ≡ min a b ⌝ }
+{
+    if a < b { a } else { b }
+}
+
+// "Columns of unequal length have the room of the shortest."
+pub fn row_room(kinds: &[u8], firsts: &[usize], counts: &[usize], bounds: &[i64]) -> usize
+    ensures { λ r. ⌜ r ≡ min (length (now (kinds .entry))) (min (length (now (firsts .entry))) (min (length (now (counts .entry))) (length (now (bounds .entry))))) ⌝ }
+{
+    lesser(
+        kinds.len(),
+        lesser(firsts.len(), lesser(counts.len(), bounds.len())),
+    )
+}
+
+pub fn term_room(weights: &[i64], literals: &[u32]) -> usize
+    ensures { λ r. ⌜ r ≡ min (length (now (weights .entry))) (length (now (literals .entry))) ⌝ }
+{
+    lesser(weights.len(), literals.len())
+}
+
+// Whether `count` terms from `first` on lie in columns with room for `room`; the sum may be beyond 64 bits.
+pub fn in_column(first: usize, count: usize, room: usize) -> bool
+    ensures { λ r. ⌜ r ≡ leb (first + count) room ⌝ }
+{
+    if first > room {
+        return false;
+    }
+    count <= room - first
+}
+
+// Whether no literal has "an index above its limit".
+pub fn indexed_of(literals: &[u32]) -> bool
+    ensures { λ r. ⌜ r ≡ codesIndexed (now (literals .entry)) ⌝ }
+{
+    let mut i: usize = 0;
+    while i < literals.len() {
+        let v = Lit(literals[i]).var();
+        if v.0 > INDEX_LIMIT {
+            return false;
+        }
+        i += 1;
+    }
+    true
+}
+
+// A size and one weight more. Beyond the cap nothing is added, so no sum leaves 64 bits.
+pub fn add_size(size: u64, weight: i64) -> u64
+    ensures { λ r. ⌜ r ≡ capped (size + natAbs weight) ⌝ }
+{
+    if size >= SIZE_CAP {
+        return SIZE_CAP;
+    }
+    let sum = size + numbers::magnitude(weight);
+    if sum < SIZE_CAP { sum } else { SIZE_CAP }
+}
+
+pub fn sizes_of(weights: &[i64]) -> u64
+    ensures { λ r. ⌜ r ≡ capped (weightSizes (now (weights .entry))) ⌝ }
+{
+    let mut size: u64 = 0;
+    let mut i: usize = 0;
+    while i < weights.len() {
+        size = add_size(size, weights[i]);
+        i += 1;
+    }
+    size
+}
+
+// Whether the sum of two numbers is no "result beyond signed 64 bits". The limit is moved by y, which does not leave 64 bits, and not x.
+pub fn sum_fits(x: i64, y: i64) -> bool
+    ensures { λ r. ⌜ r ≡ inI64 (x +ℤ y) ⌝ }
+{
+    if y < 0 {
+        return x >= LEAST - y;
+    }
+    x <= GREATEST - y
+}

@@ -1,0 +1,165 @@
+-- `parse_opb_data` meets its contract: 1, what the first walk refuses, 9, 10, and the whole table (proofs/Files.antt).
+use Prim.Native.Nat.{ℕ, min, _≤_}
+use mathlib.Core.Path.{_≡_, sym, ap, _∙_}
+use mathlib.Core.List.{List}
+use native.Mathlib.Omega.{arith}
+use denote.Ref.{now}
+use lib.ListN.{length}
+use Rattle.definitions.specs.Limits.{fileLimit}
+use Rattle.definitions.specs.Table.{Table, table, rowRoom, termRoom}
+use Rattle.definitions.specs.File.{statements}
+use Rattle.reader.specs.Said.{saidCounted}
+use Rattle.reader.proofs.Files.{LinesAre, totals-accepted, read-long, read-broken, read-rows, read-terms, ready, read-whole}
+use borrow.Author.Needs.{needs}
+use Rattle.reader.proofs.file.parse_opb_data.Statement.{statement}
+use Rattle.reader.proofs.file.parse_opb_data.Tie as tie
+
+module _ (c : tie.Start) where
+  abbrev text : List ℕ
+  text = now (c .args .s)
+
+  abbrev lent : Table
+  lent = table (now (c .args .kinds)) (now (c .args .firsts)) (now (c .args .counts)) (now (c .args .bounds)) (now (c .args .weights)) (now (c .args .literals))
+
+-- the file is within the limit
+module _ (c : tie.Else1) where
+  abbrev start : tie.Start
+  start = c .before .before .before .before .before .before
+
+  short : length (text start) ≤ fileLimit
+  short = c .if1 .left
+
+-- the file has read well, and the room was measured
+module _ (c : tie.After-lesser4) where
+  abbrev told : tie.After-rows
+  told = c .before .before .before .before .before
+
+  abbrev begun : tie.Else1
+  begun = told .before .before .before
+
+  abbrev many-rows : ℕ
+  many-rows = told .rows .given .0 .0
+
+  abbrev many-terms : ℕ
+  many-terms = told .rows .given .0 .1 .0
+
+  found : LinesAre (statements (start begun .args .options) (text (start begun))) many-rows many-terms
+  found = totals-accepted _ many-rows many-terms (sym (ap saidCounted (told .rows .given .1)) ∙ told .before .before .count-file .ensures)
+
+  rows-room : c .before .lesser3 .result ≡ rowRoom (lent (start begun))
+  rows-room =
+      c .before .lesser3 .ensures
+      ∙ ap (min (length (lent (start begun) .kinds))) (c .before .before .lesser2 .ensures ∙ ap (min (length (lent (start begun) .firsts))) (c .before .before .before .lesser .ensures))
+
+  terms-room : c .lesser4 .result ≡ termRoom (lent (start begun))
+  terms-room = c .lesser4 .ensures
+
+-- both fit
+module _ (c : tie.Else3) where
+  abbrev measured : tie.After-lesser4
+  measured = c .before .before
+
+  rows-fit : many-rows measured ≤ rowRoom (lent (start (begun measured)))
+  rows-fit = omega (arith, rows-room measured, c .before .if2 .left)
+
+  terms-fit : many-terms measured ≤ termRoom (lent (start (begun measured)))
+  terms-fit = omega (arith, terms-room measured, c .if3 .left)
+
+returns : tie.Need-returns
+returns c = read-long _ _ _ (c .if1 .taken)
+
+count-file-requires : tie.Need-count-file-requires
+count-file-requires c κs = search needs
+
+enum-known-number : tie.Need-enum-known-number
+enum-known-number c = search needs
+
+enum-known-rows : tie.Need-enum-known-rows
+enum-known-rows c = search needs
+
+lesser-requires : tie.Need-lesser-requires
+lesser-requires c κs = search needs
+
+lesser-requires-2 : tie.Need-lesser-requires-2
+lesser-requires-2 c κs = search needs
+
+lesser-requires-3 : tie.Need-lesser-requires-3
+lesser-requires-3 c κs = search needs
+
+lesser-requires-4 : tie.Need-lesser-requires-4
+lesser-requires-4 c κs = search needs
+
+returns-2 : tie.Need-returns-2
+returns-2 c =
+    let d = c .before in
+    let e = begun d in
+    read-rows _ _ (lent (start e)) (short e) _ _ (found d) (omega (arith, rows-room d, c .if2 .taken))
+
+returns-3 : tie.Need-returns-3
+returns-3 c =
+    let d = c .before .before in
+    let e = begun d in
+    read-terms _ _ (lent (start e)) (short e) _ _ (found d) (omega (arith, rows-room d, c .before .if2 .left)) (omega (arith, terms-room d, c .if3 .taken))
+
+fill-file-requires : tie.Need-fill-file-requires
+fill-file-requires c κs =
+    let f = c .before .before .before .before .before .before in
+    let e = begun (measured f) in
+    ready _ _ (lent (start e)) (short e) _ _ (found (measured f)) (rows-fit f) (terms-fit f)
+
+returns-4 : tie.Need-returns-4
+returns-4 c =
+    let d = c .before .before .before in
+    read-broken _ _ _ (short (d .before)) _ _ (sym (ap saidCounted (c .before .number .given .1)) ∙ d .count-file .ensures)
+
+same-length : tie.Need-same-length
+same-length c = search needs
+
+same-length-2 : tie.Need-same-length-2
+same-length-2 c = search needs
+
+same-length-3 : tie.Need-same-length-3
+same-length-3 c = search needs
+
+same-length-4 : tie.Need-same-length-4
+same-length-4 c = search needs
+
+same-length-5 : tie.Need-same-length-5
+same-length-5 c = search needs
+
+same-length-6 : tie.Need-same-length-6
+same-length-6 c = search needs
+
+returns-5 : tie.Need-returns-5
+returns-5 c =
+    let g = c .before .before .before .before .before .before .before .before .before .before in
+    let f = g .before .before .before .before .before .before .before in
+    let e = begun (measured f) in
+    read-whole _ _ (lent (start e)) (short e) _ _ (found (measured f)) (rows-fit f) (terms-fit f)
+    (table (g .fill-file .last .1 .1 .0) (g .fill-file .last .1 .1 .1 .0) (g .fill-file .last .1 .1 .1 .1 .0) (g .fill-file .last .1 .1 .1 .1 .1 .0) (g .fill-file .last .1 .1 .1 .1 .1 .1 .0)
+    (g .fill-file .last .1 .1 .1 .1 .1 .1 .1 .0))
+    (g .fill-file .ensures)
+
+pub parse-opb-data-spec : {M : Type 1} → statement M
+parse-opb-data-spec =
+    tie.close
+    (tie.spec
+    returns
+    count-file-requires
+    enum-known-number
+    enum-known-rows
+    lesser-requires
+    lesser-requires-2
+    lesser-requires-3
+    lesser-requires-4
+    returns-2
+    returns-3
+    fill-file-requires
+    returns-4
+    same-length
+    same-length-2
+    same-length-3
+    same-length-4
+    same-length-5
+    same-length-6
+    returns-5)

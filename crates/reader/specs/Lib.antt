@@ -1,0 +1,5 @@
+pub mod Brief
+pub mod Said
+pub mod Fitting
+pub mod Fill
+pub mod Reads
