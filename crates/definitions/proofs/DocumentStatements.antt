@@ -243,26 +243,26 @@ module _ (most : ℕ) where
 -- ---- a well-formed file within the limits has such statements
 
 module _ {B : Type 0} (P : B → Type 0) where
-  both-parts : (xs ys : List B) → AllOf P xs → AllOf P ys → AllOf P (xs ++ ys)
+  pub both-parts : (xs ys : List B) → AllOf P xs → AllOf P ys → AllOf P (xs ++ ys)
   both-parts [] ys g h = h
   both-parts (x ∷ xs) ys g h = (g .0, both-parts xs ys (g .1) h)
 
-  left-part : (xs ys : List B) → AllOf P (xs ++ ys) → AllOf P xs
+  pub left-part : (xs ys : List B) → AllOf P (xs ++ ys) → AllOf P xs
   left-part [] ys g = tt
   left-part (x ∷ xs) ys g = (g .0, left-part xs ys (g .1))
 
-  right-part : (xs ys : List B) → AllOf P (xs ++ ys) → AllOf P ys
+  pub right-part : (xs ys : List B) → AllOf P (xs ++ ys) → AllOf P ys
   right-part [] ys g = g
   right-part (x ∷ xs) ys g = right-part xs ys (g .1)
 
-lf-free : (t : List ℕ) → oneLine t ≡ true → AllOf D.NoLineEnd t
+pub lf-free : (t : List ℕ) → oneLine t ≡ true → AllOf D.NoLineEnd t
 unfolding oneLine
 lf-free [] e = tt
 lf-free (b ∷ t) e =
     let h = both (not (eqb b lf)) (oneLine t) e in
     (eqb-false b lf (not-true (eqb b lf) (h .0)), lf-free t (h .1))
 
-digits-free : (ds : List ℕ) → AllOf D.NoLineEnd (digitBytes ds)
+pub digits-free : (ds : List ℕ) → AllOf D.NoLineEnd (digitBytes ds)
 digits-free [] = tt
 digits-free (d ∷ ds) = ((λ q. omega arith), digits-free ds)
 
@@ -275,7 +275,7 @@ integer-free z = both-parts D.NoLineEnd (D.signText (z .sign)) (digitBytes (z .f
     by D.plus = lf-free (43 ∷ []) refl
     by D.minus = lf-free (45 ∷ []) refl
 
-header-free : (f : D.File) → AllOf D.NoLineEnd (D.headerOf f)
+pub header-free : (f : D.File) → AllOf D.NoLineEnd (D.headerOf f)
 unfolding D.headerOf oneLine
 header-free f =
     let n = D.integerText (f .variables) in

@@ -145,6 +145,10 @@ module _ (most : ℕ) (t : D.WeightedTerm) (g : Readable most t) where
       (reads-plain fromOne (digitBytes vs) (b ++ rest) (D.variableOf t - 1) (digits-leading vs (b ++ rest) (g .good .digits) (spaces-leading (t .behind) rest)) (omega arith) has-index)
       (reads-gap b rest (spaces-blanks (suc (t .behind)) rest e))
 
+pub times-bit : (w : ℤ) (b : Bool) → cond b w (pos 0) ≡ w *ℤ D.bit b
+times-bit w true = same w (w *ℤ pos 1) (omega (arith, up-mul w 1, dn-mul w 1))
+times-bit w false = sym (*ℤ-zero w)
+
 module _ (most : ℕ) where
   pub sum-begins : (t : D.WeightedTerm) (ts : List D.WeightedTerm) (y rest : List ℕ) → Readable most t → beginsTerm ((D.sumText (t ∷ ts) ++ y) ++ rest) ≡ true
   unfolding joined
@@ -161,10 +165,6 @@ module _ (most : ℕ) where
   unfolding sizes weightsOf
   sizes-of [] = refl
   sizes-of (t ∷ ts) = ap (λ (n : ℕ). natAbs (D.integerValue (t .weight)) + n) (sizes-of ts)
-
-  times-bit : (w : ℤ) (b : Bool) → cond b w (pos 0) ≡ w *ℤ D.bit b
-  times-bit w true = same w (w *ℤ pos 1) (omega (arith, up-mul w 1, dn-mul w 1))
-  times-bit w false = sym (*ℤ-zero w)
 
   true-where : (b : ℕ → Bool) (t : D.WeightedTerm) → 1 ≤ D.variableOf t → isTrue (byIndex b) (2 * (D.variableOf t - 1)) ≡ b (D.variableOf t)
   unfolding isTrue

@@ -102,6 +102,9 @@ calm-whole (b ∷ []) e =
     rw (ne-eqb b cr (λ p. omega arith))
 calm-whole (b ∷ c ∷ s) e = ap (λ (l : List ℕ). b ∷ l) (calm-whole (c ∷ s) (both (leb 32 b) (calm (c ∷ s)) e .1))
 
+pub offset-line : (z : ℤ) → oneLine (offsetSaid z) ≡ true
+offset-line z = calm-line (offsetSaid z) (calm-offset z)
+
 pub offset-whole : (z : ℤ) → withoutCr (offsetSaid z) ≡ offsetSaid z
 offset-whole z = calm-whole (offsetSaid z) (calm-offset z)
 
@@ -117,7 +120,7 @@ module _ (o : Options) where
     where
       by : (n : Bool) → Taken (statement o) inFile (cond n [] (remarkText (offsetSaid z))) (λ at. cond n [] (remarkLine at (offsetSaid z) ∷ [])) rest
       by true = taken-none (statement o) inFile (statement-moves o) rest
-      by false = taken-remark (offsetSaid z) rest (calm-line (offsetSaid z) (calm-offset z))
+      by false = taken-remark (offsetSaid z) rest (offset-line z)
 
   constraint-begins : (ts : List Term) (y rest : List ℕ) → leb 1 (length ts) ≡ true → beginsTerm ((joined (spaced (o .first)) ts ++ y) ++ rest) ≡ true
   unfolding joined

@@ -27,3 +27,12 @@ pub mod ThereAndBack
 pub mod WholeFile
 pub mod OpbDocument
 pub mod DocumentSample
+pub mod DocumentWrittenTerms
+pub mod DocumentWrittenStatements
+pub mod DocumentWrittenFile
+pub mod DocumentWrittenGoals
+pub mod DocumentLines
+pub mod DocumentWrittenLines
+pub mod WrittenDocument
+pub mod WrittenSample
+pub mod Needed

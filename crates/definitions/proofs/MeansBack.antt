@@ -60,13 +60,13 @@ remark-text pre t rest = rw (drop-append-add pre (remarkText t ++ rest) 2) (rw (
 
 -- ---- rows
 
-abbrev shownKind : Kind → Kind
+abbrev pub shownKind : Kind → Kind
 shownKind atLeast = atLeast
 shownKind atMost = atLeast
 shownKind equal = equal
 shownKind objective = objective
 
-printed-kind : (noNegated : Bool) (r : Row) → printed noNegated r .kind ≡ shownKind (r .kind)
+pub printed-kind : (noNegated : Bool) (r : Row) → printed noNegated r .kind ≡ shownKind (r .kind)
 unfolding printed unnegated flipped
 printed-kind noNegated r = by noNegated (r .kind)
   where
@@ -80,7 +80,7 @@ printed-kind noNegated r = by noNegated (r .kind)
     by false equal = refl
     by false objective = refl
 
-printed-sort : (noNegated : Bool) (r : Row) → isGoal (printed noNegated r .kind) ≡ isGoal (r .kind)
+pub printed-sort : (noNegated : Bool) (r : Row) → isGoal (printed noNegated r .kind) ≡ isGoal (r .kind)
 printed-sort noNegated r = ap isGoal (printed-kind noNegated r) ∙ by (r .kind)
   where
     by : (k : Kind) → isGoal (shownKind k) ≡ isGoal k

@@ -21,3 +21,4 @@ pub mod House
 pub mod Back
 pub mod Pieces
 pub mod DocumentRead
+pub mod DocumentWritten
