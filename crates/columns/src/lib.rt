@@ -1,5 +1,6 @@
-// What is asked of rows and terms in lent columns: how many there is room for, whether a row's terms lie in their columns, whether its variables are within
-// the limit, and how large its weights are together (01, "Numbers and tables"). Reader, normaliser, evaluator and writer ask it alike. Assumes nothing.
+// What is asked of rows and terms in lent columns (01, "Numbers and tables"), by reader, normaliser, evaluator and writer alike: how many there is room for,
+// whether a row's terms lie in their columns, whether its variables are within the limit, how large its weights are together, and whether a sum is in 64 signed
+// bits. Assumes nothing.
 use symbols::Lit;
 ghost use mathlib.Core.Path.{_≡_};
 ghost use Prim.Native.Nat.{_+_, min};
@@ -79,6 +80,7 @@ pub fn add_size(size: u64, weight: i64) -> u64
     if sum < SIZE_CAP { sum } else { SIZE_CAP }
 }
 
+// The absolute weights together, up to the cap.
 pub fn sizes_of(weights: &[i64]) -> u64
     ensures { λ r. ⌜ r ≡ capped (weightSizes (now (weights .entry))) ⌝ }
 {
@@ -91,7 +93,7 @@ pub fn sizes_of(weights: &[i64]) -> u64
     size
 }
 
-// Whether the sum of two numbers is no "result beyond signed 64 bits". The limit is moved by y, which does not leave 64 bits, and not x.
+// Whether the sum of two numbers is no "result beyond signed 64 bits". A limit less y stays in 64 bits, which the sum may not.
 pub fn sum_fits(x: i64, y: i64) -> bool
     ensures { λ r. ⌜ r ≡ inI64 (x +ℤ y) ⌝ }
 {

@@ -36,3 +36,5 @@ pub mod DocumentWrittenLines
 pub mod WrittenDocument
 pub mod WrittenSample
 pub mod Needed
+pub mod Columns
+pub mod Normals

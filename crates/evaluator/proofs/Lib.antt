@@ -1,0 +1,7 @@
+pub mod Relations
+pub mod Literals
+pub mod Sums
+pub mod Counts
+pub mod Answers
+pub mod Meant
+pub mod OneAnswer

@@ -1,0 +1,55 @@
+-- `evaluator::answer` meets its contract: the sum and the ones are the definition's, and with them the answer is (proofs/Answers.antt). Assumes nothing.
+use mathlib.Core.Path.{_∙_}
+use mathlib.Core.Logic.{inl, inr, ⊎-elim}
+use native.Mathlib.Omega.{arith}
+use borrow.Author.Needs.{needs}
+use denote.Ref.{now}
+use mir.Syntax.{w64}
+use mir.Val.{SFits}
+use mir.Facts.{toZ-ofZ}
+use Rattle.definitions.specs.Table.{termsOn}
+use Rattle.evaluator.specs.Parts.{kindOf}
+use Rattle.evaluator.proofs.Relations.{kind-constraint, kind-other}
+use Rattle.evaluator.proofs.Answers.{constraint-found, objective-found}
+use Rattle.evaluator.proofs.answer.Statement.{statement}
+use Rattle.evaluator.proofs.answer.Tie as tie
+
+sum-of-requires : tie.Need-sum-of-requires
+sum-of-requires c κs = search needs
+
+ones-of-requires : tie.Need-ones-of-requires
+ones-of-requires c κs = search needs
+
+holds-requires : tie.Need-holds-requires
+holds-requires c κs = search needs
+
+objective-requires : tie.Need-objective-requires
+objective-requires c κs = search needs
+
+returns : tie.Need-returns
+returns c =
+    let k = c .before .before .before in
+    let z = k .before .sum-of in
+    let s = k .before .before .before .before in
+    let f : SFits w64 (z .result) = record { sfits = z .ok } in
+    rw (toZ-ofZ f)
+    (constraint-found (kindOf (s .args .kind)) (s .args .bound) (termsOn (now (s .args .weights)) (now (s .args .literals))) (now (s .args .words))
+    (z .result) (k .ones-of .result) (s .args .row) (z .ensures) (k .ones-of .ensures)
+    (c .holds .result) (c .holds .ensures ∙ simp (toZ-ofZ f, toZ-ofZ (s .fits .bound))) (kind-constraint (s .args .kind) (omega arith) (omega arith)))
+
+returns-2 : tie.Need-returns-2
+returns-2 c =
+    let k = c .before .before in
+    let z = k .before .sum-of in
+    let s = k .before .before .before .before in
+    let f : SFits w64 (z .result) = record { sfits = z .ok } in
+    c .objective .ensures
+    ∙ simp (toZ-ofZ f, toZ-ofZ (s .fits .bound))
+    (objective-found (kindOf (s .args .kind)) (s .args .bound) (termsOn (now (s .args .weights)) (now (s .args .literals))) (now (s .args .words))
+    (z .result) (k .ones-of .result) (s .args .row) (z .ensures) (k .ones-of .ensures)
+    (kind-other (s .args .kind) (⊎-elim (λ w. inl (omega arith)) (λ w. inr (omega arith)) (c .before .if1 .came))))
+
+pub answer-spec : {M : Type 1} → statement M
+answer-spec =
+    tie.close
+    (tie.spec sum-of-requires ones-of-requires holds-requires objective-requires returns returns-2)

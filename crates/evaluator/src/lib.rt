@@ -1,0 +1,244 @@
+// The evaluator (01, "Normalising and evaluating"): one row of a table under an assignment lent as words. Each step has a function of its own, from the row's
+// entry down to a single literal. Assumes nothing.
+use symbols::Lit;
+ghost use mathlib.Core.Path.{_≡_};
+ghost use mathlib.Core.Bool.{true};
+ghost use Prim.Native.Nat.{_*_, _≤_, _<_};
+ghost use lib.ListN.{length};
+ghost use lib.IntN.{_+ℤ_};
+ghost use Rattle.definitions.specs.Limits.{weightLimit, wordLimit};
+ghost use Rattle.definitions.specs.Literal.{indexOf};
+ghost use Rattle.definitions.specs.Row.{rowOf, sizes};
+ghost use Rattle.definitions.specs.Table.{table, termsOn};
+ghost use Rattle.definitions.specs.Meaning.{isTrue, sumOf, holdsBy, assigned, onesOf};
+ghost use Rattle.definitions.specs.Evaluate.{foundBy, onPlace, evaluating};
+ghost use Rattle.evaluator.specs.Said.{saidEvaluated};
+ghost use Rattle.evaluator.specs.Parts.{kindOf, codesCovered, valued, foundOf, foundAt};
+
+// "The evaluator answers, for one row, the sum and whether it holds; for an objective, the sum plus the bound column ... It also reports the number of ones in
+// the assignment's words."
+pub enum Evaluated {
+    Refused { number: u8, place: usize },
+    Constraint { sum: i64, holds: bool, ones: u64 },
+    Objective { value: i64, ones: u64 },
+}
+
+// The numbers of the read rows in the column of kinds; a comment's is 0.
+const AT_LEAST: u8 = 1;
+
+const AT_MOST: u8 = 2;
+
+const EQUAL: u8 = 3;
+
+const OBJECTIVE: u8 = 4;
+
+// "sum of absolute weights in a row ... (M)"
+const WEIGHT_LIMIT: u64 = 9_223_372_036_854_775_807;
+
+// "Words after the first 16,777,216 are not looked at."
+const WORD_LIMIT: usize = 16_777_216;
+
+// The place of each refusal is the row.
+fn refused(number: u8, row: usize) -> Evaluated
+    ensures { λ r. ⌜ r ≡ Evaluated.Refused number row ⌝ }
+{
+    Evaluated::Refused { number, place: row }
+}
+
+// "Variable v is bit v mod 64 of word v/64."
+fn is_true(literal: Lit, words: &[u64]) -> bool
+    requires { ⌜ indexOf (literal .0) < 64 * length (now words) ⌝ }
+    ensures { λ r. ⌜ r ≡ isTrue (assigned (now (words .entry))) (literal .0) ⌝ }
+{
+    let v = literal.var().0 as usize;
+    let word = words[v / 64];
+    let one = (word >> (v % 64)) % 2 == 1;
+    if literal.is_neg() { !one } else { one }
+}
+
+// Whether every variable has a bit; if not, "variable beyond the assignment".
+fn covered(literals: &[u32], words: &[u64]) -> bool
+    ensures { λ r. ⌜ r ≡ codesCovered (now (words .entry)) (now (literals .entry)) ⌝ }
+{
+    let mut i: usize = 0;
+    while i < literals.len() {
+        let v = Lit(literals[i]).var().0 as usize;
+        if v / 64 >= words.len() {
+            return false;
+        }
+        i += 1;
+    }
+    true
+}
+
+// The weights whose literal is true. No sum on the way is larger than the absolute weights together, so none leaves 64 bits.
+fn sum_of(weights: &[i64], literals: &[u32], words: &[u64]) -> i64
+    requires lengths { ⌜ length (now weights) ≡ length (now literals) ⌝ }
+    requires small { ⌜ sizes (termsOn (now weights) (now literals)) ≤ weightLimit ⌝ }
+    requires covers { ⌜ codesCovered (now words) (now literals) ≡ true ⌝ }
+    ensures { λ r. ⌜ r ≡ sumOf (assigned (now (words .entry))) (termsOn (now (weights .entry)) (now (literals .entry))) ⌝ }
+{
+    let mut sum: i64 = 0;
+    let mut i: usize = 0;
+    while i < weights.len() {
+        if is_true(Lit(literals[i]), words) {
+            let w = weights[i];
+            sum = sum + w;
+        }
+        i += 1;
+    }
+    sum
+}
+
+// "The number of ones in the assignment's words."
+fn ones_of(words: &[u64]) -> u64
+    requires { ⌜ length (now words) ≤ wordLimit ⌝ }
+    ensures { λ r. ⌜ r ≡ onesOf (now (words .entry)) ⌝ }
+{
+    let mut ones: u64 = 0;
+    let mut i: usize = 0;
+    while i < words.len() {
+        ones += u64::count_ones(words[i]) as u64;
+        i += 1;
+    }
+    ones
+}
+
+// Whether a sum holds against a bound; of an objective nothing is asked.
+fn holds(kind: u8, sum: i64, bound: i64) -> bool
+    ensures { λ r. ⌜ r ≡ holdsBy (kindOf kind) sum bound ⌝ }
+{
+    match kind {
+        AT_LEAST => bound <= sum,
+        AT_MOST => sum <= bound,
+        EQUAL => sum == bound,
+        _ => true,
+    }
+}
+
+// "For an objective, the sum plus the bound column", or 8.
+fn objective(sum: i64, bound: i64, ones: u64, row: usize) -> Evaluated
+    ensures { λ r. ⌜ saidEvaluated r ≡ onPlace row (valued (sum +ℤ bound) ones) ⌝ }
+{
+    if columns::sum_fits(sum, bound) {
+        let value = sum + bound;
+        return Evaluated::Objective { value, ones };
+    }
+    refused(8, row)
+}
+
+// The answer for terms of which nothing is left to ask.
+fn answer(
+    kind: u8,
+    bound: i64,
+    weights: &[i64],
+    literals: &[u32],
+    row: usize,
+    words: &[u64],
+) -> Evaluated
+    requires lengths { ⌜ length (now weights) ≡ length (now literals) ⌝ }
+    requires few { ⌜ length (now words) ≤ wordLimit ⌝ }
+    requires small { ⌜ sizes (termsOn (now weights) (now literals)) ≤ weightLimit ⌝ }
+    requires covers { ⌜ codesCovered (now words) (now literals) ≡ true ⌝ }
+    ensures { λ r. ⌜ saidEvaluated r ≡ onPlace row (foundBy (kindOf kind) (now (words .entry)) (rowOf (kindOf kind) bound (termsOn (now (weights .entry)) (now (literals .entry))))) ⌝ }
+{
+    let sum = sum_of(weights, literals, words);
+    let ones = ones_of(words);
+    match kind {
+        AT_LEAST | AT_MOST | EQUAL => {
+            let holds = holds(kind, sum, bound);
+            Evaluated::Constraint { sum, holds, ones }
+        }
+        _ => objective(sum, bound, ones, row),
+    }
+}
+
+// A row of a read kind, whose terms lie in their columns: what is left of 11, then "8 for absolute weights, 12".
+fn evaluate_terms(
+    kind: u8,
+    bound: i64,
+    weights: &[i64],
+    literals: &[u32],
+    row: usize,
+    words: &[u64],
+) -> Evaluated
+    requires lengths { ⌜ length (now weights) ≡ length (now literals) ⌝ }
+    requires few { ⌜ length (now words) ≤ wordLimit ⌝ }
+    ensures { λ r. ⌜ saidEvaluated r ≡ onPlace row (foundOf kind bound (termsOn (now (weights .entry)) (now (literals .entry))) (now (words .entry))) ⌝ }
+{
+    let indexed = columns::indexed_of(literals);
+    let size = columns::sizes_of(weights);
+    let covers = covered(literals, words);
+    if !indexed {
+        return refused(11, row);
+    }
+    if size > WEIGHT_LIMIT {
+        return refused(8, row);
+    }
+    if !covers {
+        return refused(12, row);
+    }
+    answer(kind, bound, weights, literals, row, words)
+}
+
+// An entry of the table. A comment, and any kind that the reader does not give, is a "row that no table may hold".
+fn evaluate_entry(
+    kind: u8,
+    first: usize,
+    count: usize,
+    bound: i64,
+    weights: &[i64],
+    literals: &[u32],
+    row: usize,
+    words: &[u64],
+) -> Evaluated
+    requires { ⌜ length (now words) ≤ wordLimit ⌝ }
+    ensures { λ r. ⌜ saidEvaluated r ≡ onPlace row (foundAt (record { kind = kind; first = first; count = count; bound = bound }) (now (weights .entry)) (now (literals .entry)) (now (words .entry))) ⌝ }
+{
+    match kind {
+        AT_LEAST..=OBJECTIVE => {}
+        _ => return refused(11, row),
+    }
+    let room = columns::term_room(weights, literals);
+    if !columns::in_column(first, count, room) {
+        return refused(11, row);
+    }
+    let end = first + count;
+    evaluate_terms(
+        kind,
+        bound,
+        &weights[first..end],
+        &literals[first..end],
+        row,
+        words,
+    )
+}
+
+// Row `row` of the table, rows counted from 0. Order: "11 (comments and missing rows too), 8 for absolute weights, 12, then 8 for an objective's value".
+pub fn evaluate(
+    kinds: &[u8],
+    firsts: &[usize],
+    counts: &[usize],
+    bounds: &[i64],
+    weights: &[i64],
+    literals: &[u32],
+    row: usize,
+    words: &[u64],
+) -> Evaluated
+    ensures { λ r. ⌜ saidEvaluated r ≡ evaluating (table (now (kinds .entry)) (now (firsts .entry)) (now (counts .entry)) (now (bounds .entry)) (now (weights .entry)) (now (literals .entry))) row (now (words .entry)) ⌝ }
+{
+    if row >= columns::row_room(kinds, firsts, counts, bounds) {
+        return refused(11, row);
+    }
+    let looked = columns::lesser(words.len(), WORD_LIMIT);
+    evaluate_entry(
+        kinds[row],
+        firsts[row],
+        counts[row],
+        bounds[row],
+        weights,
+        literals,
+        row,
+        &words[..looked],
+    )
+}

@@ -1,0 +1,5 @@
+pub mod Parts
+pub mod Said
+pub mod Fill
+pub mod Normalises
+pub mod Meant

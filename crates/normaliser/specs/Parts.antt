@@ -1,0 +1,54 @@
+-- What the steps of the normaliser say of the columns that they are lent. proofs/ ties each to the definitions.
+use Prim.Native.Nat.{ℕ, suc, _+_}
+use mathlib.Core.Bool.{cond, _&&_}
+use mathlib.Core.List.{List, [], _∷_}
+use lib.Dec.{leb, eqb}
+use lib.ListN.{length}
+use lib.IntN.{ℤ, pos, negsuc, negℤ, _+ℤ_}
+use Rattle.definitions.specs.Limits.{weightLimit, inI64}
+use Rattle.definitions.specs.Refusal.{needed, Checked, refuse, accept}
+use Rattle.definitions.specs.Row.{Kind, atLeast, atMost, equal, objective, Line, termsOf}
+use Rattle.definitions.specs.Table.{Table, table, Outcome, refused, accepted, Entry, Totals, totalsOf, allTerms}
+use Rattle.definitions.specs.Normal.{normalIn}
+use Rattle.columns.specs.Parts.{codesIndexed, weightSizes}
+
+-- the kind of a row whose number in the column of kinds is a read row's
+unfoldable pub kindOf : ℕ → Kind
+kindOf n = cond (eqb n 4) objective (cond (eqb n 3) equal (cond (eqb n 2) atMost atLeast))
+
+-- -w of a negative weight w, 0 of any other
+abbrev pub riseOf : ℤ → ℕ
+riseOf (pos n) = 0
+riseOf (negsuc n) = suc n
+
+-- what the sum of a row with these weights grows by
+unfoldable pub weightRises : List ℤ → ℕ
+weightRises [] = 0
+weightRises (w ∷ ws) = riseOf w + weightRises ws
+
+-- what is added to the bound: "a bound grows by -w, an objective's offset falls by -w"
+abbrev pub shiftBy : Kind → ℕ → ℤ
+shiftBy atLeast n = pos n
+shiftBy atMost n = pos n
+shiftBy equal n = pos n
+shiftBy objective n = negℤ (pos n)
+
+-- the count of terms of a row of a read kind, whose terms lie in their columns; 11, then 8
+unfoldable pub termsChecked : ℕ → ℤ → List ℤ → List ℕ → Checked ℕ
+termsChecked k b ws cs =
+    cond (codesIndexed cs)
+    (cond (leb (weightSizes ws) weightLimit && inI64 (b +ℤ shiftBy (kindOf k) (weightRises ws))) (accept (length ws)) (refuse 8))
+    (refuse 11)
+
+-- an entry of a table with these two columns of terms
+abbrev pub normalOf : Entry → List ℤ → List ℕ → Checked Line
+normalOf e ws cs = normalIn (table [] [] [] [] ws cs) e
+
+abbrev pub termCount : Checked Line → Checked ℕ
+termCount (refuse n) = refuse n
+termCount (accept l) = accept (length (termsOf l))
+
+-- how many rows and terms there are to fill; "a needed number above 18,446,744,073,709,551,615 is given as that one"
+abbrev pub totalsNeeded : Outcome (List Line) → Outcome Totals
+totalsNeeded (refused r) = refused r
+totalsNeeded (accepted ls) = accepted (totalsOf (length ls) (needed (length (allTerms ls))))

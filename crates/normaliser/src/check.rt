@@ -1,0 +1,144 @@
+// The first walk over the rows: each is checked, rows and terms are counted (01, "Row by row 11, 8"). Assumes nothing.
+ghost use mathlib.Core.Path.{_≡_};
+ghost use Prim.Native.Nat.{_+_, _≤_};
+ghost use Rattle.definitions.specs.Limits.{weightLimit};
+ghost use Rattle.definitions.specs.Refusal.{needed};
+ghost use Rattle.definitions.specs.Table.{table};
+ghost use Rattle.columns.specs.Parts.{weightSizes};
+ghost use Rattle.normaliser.specs.Parts.{kindOf, riseOf, weightRises, shiftBy, termsChecked, normalOf, termCount, totalsNeeded};
+ghost use Rattle.normaliser.specs.Fill.{normalRows};
+ghost use Rattle.normaliser.specs.Said.{saidRow, saidCounted};
+
+// The numbers of the read rows in the column of kinds are 0 to 4.
+pub(crate) const COMMENT: u8 = 0;
+
+const OBJECTIVE: u8 = 4;
+
+// "sum of absolute weights in a row ... (M)"
+const WEIGHT_LIMIT: u64 = 9_223_372_036_854_775_807;
+
+// "A needed number above 18,446,744,073,709,551,615 is given as that one."
+const NEEDED_LIMIT: usize = 18_446_744_073_709_551_615;
+
+// The count of terms of a row, or the number of its refusal.
+pub enum RowCheck {
+    Accepted(usize),
+    Refused(u8),
+}
+
+// The rows and terms that there are to fill, or the first refusal with its row.
+pub enum Counted {
+    Refused { number: u8, place: usize },
+    Rows { rows: usize, terms: usize },
+}
+
+fn rise_by(weight: i64) -> u64
+    ensures { λ r. ⌜ r ≡ riseOf weight ⌝ }
+{
+    if weight < 0 {
+        numbers::magnitude(weight)
+    } else {
+        0
+    }
+}
+
+// No rise on the way is larger than the absolute weights together, so none leaves 64 bits.
+fn rise_of(weights: &[i64]) -> u64
+    requires { ⌜ weightSizes (now weights) ≤ weightLimit ⌝ }
+    ensures { λ r. ⌜ r ≡ weightRises (now (weights .entry)) ⌝ }
+{
+    let mut rise: u64 = 0;
+    let mut i: usize = 0;
+    while i < weights.len() {
+        rise += rise_by(weights[i]);
+        i += 1;
+    }
+    rise
+}
+
+// "A bound grows by -w, an objective's offset falls by -w": what is added to it.
+pub(crate) fn shift_of(kind: u8, weights: &[i64]) -> i64
+    requires { ⌜ weightSizes (now weights) ≤ weightLimit ⌝ }
+    ensures { λ r. ⌜ r ≡ shiftBy (kindOf kind) (weightRises (now (weights .entry))) ⌝ }
+{
+    let rise = rise_of(weights) as i64;
+    if kind == OBJECTIVE { -rise } else { rise }
+}
+
+// A row of a read kind, whose terms lie in their columns: the rest of 11, then 8.
+fn check_terms(kind: u8, bound: i64, weights: &[i64], literals: &[u32]) -> RowCheck
+    ensures { λ r. ⌜ saidRow r ≡ termsChecked kind bound (now (weights .entry)) (now (literals .entry)) ⌝ }
+{
+    if !columns::indexed_of(literals) {
+        return RowCheck::Refused(11);
+    }
+    if columns::sizes_of(weights) > WEIGHT_LIMIT {
+        return RowCheck::Refused(8);
+    }
+    if !columns::sum_fits(bound, shift_of(kind, weights)) {
+        return RowCheck::Refused(8);
+    }
+    RowCheck::Accepted(weights.len())
+}
+
+// An entry of the table. A comment is accepted as it is; a kind that the reader does not give is a "row that no table may hold".
+fn check_row(
+    kind: u8,
+    first: usize,
+    count: usize,
+    bound: i64,
+    weights: &[i64],
+    literals: &[u32],
+) -> RowCheck
+    ensures { λ r. ⌜ saidRow r ≡ termCount (normalOf (record { kind = kind; first = first; count = count; bound = bound }) (now (weights .entry)) (now (literals .entry))) ⌝ }
+{
+    if kind == COMMENT {
+        return RowCheck::Accepted(0);
+    }
+    if kind > OBJECTIVE {
+        return RowCheck::Refused(11);
+    }
+    let room = columns::term_room(weights, literals);
+    if !columns::in_column(first, count, room) {
+        return RowCheck::Refused(11);
+    }
+    let end = first + count;
+    check_terms(kind, bound, &weights[first..end], &literals[first..end])
+}
+
+// A needed count and n more. Rows may share terms, so a count can pass 64 bits.
+fn add_needed(count: usize, n: usize) -> usize
+    ensures { λ r. ⌜ r ≡ needed (count + n) ⌝ }
+{
+    if n > NEEDED_LIMIT - count {
+        return NEEDED_LIMIT;
+    }
+    count + n
+}
+
+pub(crate) fn count_rows(
+    kinds: &[u8],
+    firsts: &[usize],
+    counts: &[usize],
+    bounds: &[i64],
+    weights: &[i64],
+    literals: &[u32],
+) -> Counted
+    ensures { λ r. ⌜ saidCounted r ≡ totalsNeeded (normalRows (table (now (kinds .entry)) (now (firsts .entry)) (now (counts .entry)) (now (bounds .entry)) (now (weights .entry)) (now (literals .entry)))) ⌝ }
+{
+    let rows = columns::row_room(kinds, firsts, counts, bounds);
+    let mut terms: usize = 0;
+    let mut i: usize = 0;
+    while i < rows {
+        match check_row(kinds[i], firsts[i], counts[i], bounds[i], weights, literals) {
+            RowCheck::Refused(number) => {
+                return Counted::Refused { number, place: i };
+            }
+            RowCheck::Accepted(n) => {
+                terms = add_needed(terms, n);
+            }
+        }
+        i += 1;
+    }
+    Counted::Rows { rows, terms }
+}
