@@ -38,3 +38,4 @@ pub mod WrittenSample
 pub mod Needed
 pub mod Columns
 pub mod Normals
+pub mod Puts

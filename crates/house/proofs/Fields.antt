@@ -1,0 +1,94 @@
+-- Laws of the fields of terms: the text of a literal, the lengths, and the walk over the terms of a row.
+use mathlib.Core.Path.{_≡_, refl, sym, ap, _∙_}
+use mathlib.Core.Bool.{true, false}
+use mathlib.Core.List.{List, [], _∷_, _++_, append-assoc, append-nil}
+use Prim.Native.Nat.{ℕ, _+_, _≤_, _<_}
+use native.Mathlib.Omega.{arith}
+use lib.IntN.{ℤ, pos}
+use lib.ListN.{length, getD, drop, length-append}
+use Rattle.definitions.specs.Lists.{joined}
+use Rattle.definitions.specs.Refusal.{needed}
+use Rattle.definitions.specs.Number.{decimal, integerText}
+use Rattle.definitions.specs.Literal.{indexOf, negated}
+use Rattle.definitions.specs.Row.{Term, term}
+use Rattle.definitions.specs.Table.{termsOn}
+use Rattle.definitions.specs.Write.{numberText, literalText}
+use Rattle.definitions.specs.House.{field, termFields}
+use Rattle.definitions.proofs.Puts.{needed-add, needed-both}
+use Rattle.columns.proofs.Terms.{terms-from, terms-end}
+
+-- ---- one term
+
+module _ (first c : ℕ) where
+  pub literal-negated : negated c ≡ true → literalText first c ≡ 126 ∷ 120 ∷ decimal (indexOf c + first)
+  unfolding literalText numberText
+  literal-negated e = rw e
+
+  pub literal-plain : negated c ≡ false → literalText first c ≡ 120 ∷ decimal (indexOf c + first)
+  unfolding literalText numberText
+  literal-plain e = rw e
+
+-- a tab before each of the two fields
+pub term-fields-length : (first : ℕ) (w : ℤ) (c : ℕ) → length (termFields first (term w c)) ≡ length (integerText w) + length (literalText first c) + 2
+unfolding termFields
+term-fields-length first w c = omega (arith, length-append (field (integerText w)) (field (literalText first c)))
+
+module _ (first : ℕ) (w : ℤ) (c : ℕ) where
+  pub negated-term-length : negated c ≡ true → length (termFields first (term w c)) ≡ length (integerText w) + length (decimal (indexOf c + first)) + 4
+  negated-term-length e = omega (arith, term-fields-length first w c, ap length (literal-negated first c e))
+
+  pub plain-term-length : negated c ≡ false → length (termFields first (term w c)) ≡ length (integerText w) + length (decimal (indexOf c + first)) + 3
+  plain-term-length e = omega (arith, term-fields-length first w c, ap length (literal-plain first c e))
+
+-- ---- lengths up to the limit of a needed number
+
+module _ {A : Type 0} (s t : List A) {n m r : ℕ} (a : n ≡ needed (length s)) where
+  -- one part more, and one more that was itself counted up to the limit
+  pub needed-more : m ≡ length t → r ≡ needed (n + m) → r ≡ needed (length (s ++ t))
+  needed-more b e = e ∙ rw (a, b, needed-add, length-append s t)
+
+  pub needed-more-yet : m ≡ needed (length t) → r ≡ needed (n + m) → r ≡ needed (length (s ++ t))
+  needed-more-yet b e = e ∙ rw (a, b, needed-both, length-append s t)
+
+-- ---- the walk over the terms of a row
+
+-- the text of the first i of them, of which P holds, and the rest
+pub record TermsAt (first : ℕ) (ws : List ℤ) (cs : List ℕ) (i : ℕ) (P : List ℕ → Type 0) : Type 0 where
+  pub within : i ≤ length cs
+  pub text : List ℕ
+  pub split : joined (termFields first) (termsOn ws cs) ≡ text ++ joined (termFields first) (termsOn (drop i ws) (drop i cs))
+  pub holds : P text
+
+pub terms-none : (first : ℕ) (ws : List ℤ) (cs : List ℕ) {P : List ℕ → Type 0} → P [] → TermsAt first ws cs 0 P
+terms-none first ws cs p = record { within = omega arith; text = []; split = refl; holds = p }
+
+module _ {first : ℕ} {ws : List ℤ} {cs : List ℕ} {i : ℕ} {P : List ℕ → Type 0} (t : TermsAt first ws cs i P) (long : length ws ≡ length cs) where
+  module _ (h : i < length cs) where
+    abbrev pub here : Term
+    here = term (getD ws i (pos 0)) (getD cs i 0)
+
+    rest : joined (termFields first) (termsOn (drop i ws) (drop i cs)) ≡ termFields first here ++ joined (termFields first) (termsOn (drop (i + 1) ws) (drop (i + 1) cs))
+    unfolding joined
+    rest = ap (joined (termFields first)) (terms-from ws cs i (omega arith) h)
+
+    pub terms-more : {Q : List ℕ → Type 0} → Q (t .text ++ termFields first here) → TermsAt first ws cs (i + 1) Q
+    terms-more q =
+        record {
+          within = omega arith;
+          text = t .text ++ termFields first here;
+          split = t .split ∙ rw rest (sym (append-assoc (t .text) (termFields first here) _));
+          holds = q;
+        }
+
+    -- the text of one term more is within the whole
+    pub terms-within : length (t .text) + length (termFields first here) ≤ length (joined (termFields first) (termsOn ws cs))
+    terms-within =
+        let tail = joined (termFields first) (termsOn (drop (i + 1) ws) (drop (i + 1) cs)) in
+        omega (arith, ap length (t .split), length-append (t .text) (joined (termFields first) (termsOn (drop i ws) (drop i cs))), ap length rest, length-append (termFields first here) tail)
+
+  pub terms-all : length cs ≤ i → P (joined (termFields first) (termsOn ws cs))
+  unfolding joined
+  terms-all h =
+      let e : termsOn (drop i ws) (drop i cs) ≡ [] = terms-end ws cs i (omega arith) in
+      let whole : joined (termFields first) (termsOn ws cs) ≡ t .text = t .split ∙ rw e (append-nil (t .text)) in
+      rw whole (t .holds)

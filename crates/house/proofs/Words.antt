@@ -1,0 +1,81 @@
+-- Laws of the words of a line: which kind a number is, and a line in the pieces that the code puts one behind the other.
+use mathlib.Core.Path.{_≡_, refl, sym, ap}
+use mathlib.Core.List.{List, [], _∷_, _++_, append-assoc}
+use Prim.Native.Nat.{ℕ, zero, suc, _+_, _≤_}
+use native.Mathlib.Omega.{arith}
+use borrow.Author.Tests.{ne-eqb}
+use lib.IntN.{ℤ}
+use lib.ListN.{length, length-append}
+use Rattle.definitions.specs.Lists.{joined}
+use Rattle.definitions.specs.Refusal.{refusal}
+use Rattle.definitions.specs.Bytes.{tab, lf}
+use Rattle.definitions.specs.Number.{decimal, integerText}
+use Rattle.definitions.specs.Row.{Term, Kind, atLeast, atMost, equal, objective, comment, row, rowOf}
+use Rattle.definitions.specs.House.{field, kindWord, termFields, houseLine, refusedLine}
+use Rattle.house.specs.Words.{kindOf, wordField, commentLine, headText}
+
+-- ---- the kind of a number
+
+module _ (k : ℕ) where
+  pub kind-one : k ≡ 1 → kindOf k ≡ atLeast
+  unfolding kindOf
+  kind-one e = rw e
+
+  pub kind-two : k ≡ 2 → kindOf k ≡ atMost
+  unfolding kindOf
+  kind-two e = rw e
+
+  pub kind-three : k ≡ 3 → kindOf k ≡ equal
+  unfolding kindOf
+  kind-three e = rw e
+
+  pub kind-other : (k ≡ 1 → ⊥) → (k ≡ 2 → ⊥) → (k ≡ 3 → ⊥) → kindOf k ≡ objective
+  unfolding kindOf
+  kind-other a b c = rw (ne-eqb k 1 a, ne-eqb k 2 b, ne-eqb k 3 c)
+
+pub word-two : (k : ℕ) → 1 ≤ k → k ≤ 3 → 2 ≡ length (kindWord (kindOf k))
+unfolding kindOf
+word-two zero h g = absurd (omega arith)
+word-two (suc zero) h g = refl
+word-two (suc (suc zero)) h g = refl
+word-two (suc (suc (suc zero))) h g = refl
+word-two (suc (suc (suc (suc k)))) h g = absurd (omega arith)
+
+pub word-three : (k : ℕ) → (k ≡ 1 → ⊥) → (k ≡ 2 → ⊥) → (k ≡ 3 → ⊥) → 3 ≡ length (kindWord (kindOf k))
+word-three k a b c = rw (kind-other k a b c)
+
+pub word-most : (k : Kind) → length (kindWord k) ≤ 3
+word-most atLeast = omega arith
+word-most atMost = omega arith
+word-most equal = omega arith
+word-most objective = omega arith
+
+-- ---- a line
+
+pub comment-words : (first f n : ℕ) (b : ℤ) → houseLine first (comment f n b) ≡ commentLine n
+unfolding houseLine
+comment-words first f n b = refl
+
+module _ (first : ℕ) (k : Kind) (b : ℤ) (ts : List Term) where
+  pub line-words : houseLine first (row (rowOf k b ts)) ≡ wordField k ++ (integerText b ++ (joined (termFields first) ts ++ (lf ∷ [])))
+  unfolding houseLine
+  line-words = sym (append-assoc (kindWord k) (tab ∷ []) (integerText b ++ (joined (termFields first) ts ++ (lf ∷ []))))
+
+  pub line-length : length (houseLine first (row (rowOf k b ts))) ≡ length (joined (termFields first) ts) + (length (wordField k) + (length (integerText b) + 1))
+  line-length =
+      let t = joined (termFields first) ts in
+      omega (arith, ap length line-words, length-append (wordField k) (integerText b ++ (t ++ (lf ∷ []))), length-append (integerText b) (t ++ (lf ∷ [])), length-append t (lf ∷ []))
+
+-- ---- the head, and the line of a refusal
+
+pub head-length : (rows terms first : ℕ) → length (headText rows terms first) ≡ length (decimal rows) + length (decimal terms) + length (decimal first) + 7
+head-length rows terms first =
+    let f = field (decimal first) ++ (lf ∷ []) in
+    let t = field (decimal terms) ++ f in
+    omega (arith, length-append (field (decimal rows)) t, length-append (field (decimal terms)) f, length-append (field (decimal first)) (lf ∷ []))
+
+pub refused-length : (number place : ℕ) → length (refusedLine (refusal number place)) ≡ length (decimal number) + length (decimal place) + 10
+unfolding refusedLine
+refused-length number place =
+    let p = field (decimal place) ++ (lf ∷ []) in
+    omega (arith, length-append (field (decimal number)) p, length-append (field (decimal place)) (lf ∷ []))

@@ -1,0 +1,5 @@
+pub mod Said
+pub mod Lists
+pub mod Words
+pub mod Sizes
+pub mod Ready

@@ -1,0 +1,14 @@
+-- What `list_table` promises: the house lines of a table, from the front of the output, or a refusal that changes nothing.
+use Prim.Native.Nat.{ℕ}
+use mathlib.Core.Path.{_≡_}
+use mathlib.Core.List.{List}
+use lib.ListN.{length}
+use Rattle.definitions.specs.Table.{Table}
+use Rattle.definitions.specs.Write.{outputAfter}
+use Rattle.definitions.specs.House.{listingTable}
+use Rattle.house.specs.declared.Listed as code
+use Rattle.house.specs.Said.{saidListed, textLength}
+
+pub record Lists (first rows : ℕ) (t : Table) (o : List ℕ) (r : code.Listed) (o′ : List ℕ) : Type 0 where
+  pub answer : saidListed r ≡ textLength (listingTable first rows t (length o))
+  pub after : o′ ≡ outputAfter (listingTable first rows t (length o)) o
