@@ -1,0 +1,41 @@
+-- Two answers that the contract allows are equal, and so is what they leave in the output and in the tables lent.
+use mathlib.Core.Path.{_≡_, refl, sym, ap, _∙_}
+use Prim.Native.Nat.{ℕ}
+use native.Mathlib.Omega.{arith}
+use mathlib.Core.List.{List}
+use Rattle.definitions.specs.Refusal.{Refusal, refusal}
+use Rattle.definitions.specs.Table.{Table, Totals, totalsOf}
+use Rattle.definitions.specs.declared.Mode.{Mode}
+use Rattle.promise.specs.Returns.{saidReturned, Returns}
+use Rattle.promise.specs.declared.Returned.{Returned}
+use Rattle.promise.specs.declared.Returned.the-variants.{NotWritten, NotRead, Back}
+
+never {ℓ} : {X : Type ℓ} → _≡_ {A = ℕ} 0 1 → X
+never z = absurd (omega arith)
+
+said-one : (r r' : Returned) → saidReturned r ≡ saidReturned r' → r ≡ r'
+said-one (NotWritten n p) (NotWritten n' p') e =
+    let c : refusal n p ≡ refusal n' p' = cc in
+    let a : n ≡ n' = ap (λ (x : Refusal). x .number) c in
+    let b : p ≡ p' = ap (λ (x : Refusal). x .place) c in
+    cc
+said-one (NotWritten n p) (NotRead n' p') e = never (cc)
+said-one (NotWritten n p) (Back l n' m) e = never (cc)
+said-one (NotRead n p) (NotWritten n' p') e = never (cc)
+said-one (NotRead n p) (NotRead n' p') e =
+    let c : refusal n p ≡ refusal n' p' = cc in
+    let a : n ≡ n' = ap (λ (x : Refusal). x .number) c in
+    let b : p ≡ p' = ap (λ (x : Refusal). x .place) c in
+    cc
+said-one (NotRead n p) (Back l n' m) e = never (cc)
+said-one (Back l n m) (NotWritten n' p') e = never (cc)
+said-one (Back l n m) (NotRead n' p') e = never (cc)
+said-one (Back l n m) (Back l' n' m') e =
+    let c : totalsOf n m ≡ totalsOf n' m' = cc in
+    let a : n ≡ n' = ap (λ (x : Totals). x .rows) c in
+    let b : m ≡ m' = ap (λ (x : Totals). x .terms) c in
+    cc
+
+pub returns-one : {m : Mode} {t : Table} {text o : List ℕ} {new : Table} (r r' : Returned) (o₁ o₂ : List ℕ) (n₁ n₂ : Table)
+    → Returns m t text o new r o₁ n₁ → Returns m t text o new r' o₂ n₂ → (r ≡ r') × (o₁ ≡ o₂) × (n₁ ≡ n₂)
+returns-one r r' o₁ o₂ n₁ n₂ p q = (said-one r r' (p .answer ∙ sym (q .answer)), p .output ∙ sym (q .output), p .tables ∙ sym (q .tables))

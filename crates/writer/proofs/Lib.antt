@@ -1,0 +1,16 @@
+pub mod Tests
+pub mod Outputs
+pub mod OneTerm
+pub mod AllTerms
+pub mod Sorts
+pub mod Differences
+pub mod Tallies
+pub mod PrintedRows
+pub mod Frames
+pub mod Measures
+pub mod WrittenLines
+pub mod OneEntry
+pub mod Comments
+pub mod Rowwise
+pub mod Whole
+pub mod OneAnswer

@@ -1,0 +1,96 @@
+-- What the walks count is what the definitions ask of the row: 11 of its terms, their file numbers, the sums of their weights, the length of their text.
+use mathlib.Core.Path.{_≡_, refl, sym, _∙_}
+use mathlib.Core.Bool.{Bool, true, false, cond, _&&_}
+use mathlib.Core.List.{List, [], _∷_}
+use Prim.Native.Nat.{ℕ, _+_, _≤_}
+use native.Mathlib.Omega.{arith}
+use lib.IntN.{natAbs}
+use lib.Signed.{nonNeg}
+use lib.ListN.{length, length-append}
+use Rattle.definitions.specs.Lists.{joined}
+use Rattle.definitions.specs.Limits.{neededLimit}
+use Rattle.definitions.specs.Refusal.{Checked, refuse, accept, needed}
+use Rattle.definitions.specs.Literal.{indexOf, isIndex}
+use Rattle.definitions.specs.Row.{Term, sizes}
+use Rattle.definitions.specs.Table.{indexed}
+use Rattle.definitions.specs.Write.{weighs, numbered}
+use Rattle.columns.specs.Sizes.{sizeCap, capped}
+use Rattle.writer.specs.declared.terms.Style.{Style}
+use Rattle.writer.specs.declared.sums.Sums.{Sums}
+use Rattle.writer.specs.declared.sums.Tally.{Tally}
+use Rattle.writer.specs.Terms.{fallen, shownText, termsText}
+use Rattle.writer.proofs.Tests.{and-true, and-left, and-right, and-assoc}
+use Rattle.writer.specs.Tallies.{sumsWith, summed, hasNumber, tallyWith, tallied}
+
+-- ---- 11, or all terms counted
+
+unfoldable pub counted : Style → Tally → List Term → Tally
+counted s a [] = a
+counted s a (t ∷ ts) = counted s (tallyWith s a t) ts
+
+pub tallied-is : (s : Style) (a : Tally) (ts : List Term) → tallied s a ts ≡ cond (indexed ts && weighs ts) (accept (counted s a ts)) (refuse 11)
+unfolding tallied counted indexed weighs
+tallied-is s a [] = refl
+tallied-is s a (t ∷ ts) = rw (tallied-is s (tallyWith s a t) ts) (by _ (isIndex (indexOf (t .code))) (nonNeg (t .weight)) (indexed ts) (weighs ts))
+  where
+    by : (x : Checked Tally) (i w is ws : Bool) → cond (i && w) (cond (is && ws) x (refuse 11)) (refuse 11) ≡ cond ((i && is) && (w && ws)) x (refuse 11)
+    by x true true is ws = refl
+    by x true false true ws = refl
+    by x true false false ws = refl
+    by x false w is ws = refl
+
+-- ---- the sums
+
+-- what the bound falls by, of one term and of all
+unfoldable pub fallSize : Style → Term → ℕ
+fallSize s t = cond (fallen s t) (natAbs (t .weight)) 0
+
+unfoldable pub falls : Style → List Term → ℕ
+falls s [] = 0
+falls s (t ∷ ts) = fallSize s t + falls s ts
+
+pub falls-most : (s : Style) (ts : List Term) → falls s ts ≤ sizes ts
+unfolding falls fallSize sizes
+falls-most s [] = omega arith
+falls-most s (t ∷ ts) = omega (arith, falls-most s ts, one (fallen s t))
+  where
+    one : (b : Bool) → cond b (natAbs (t .weight)) 0 ≤ natAbs (t .weight)
+    one true = omega arith
+    one false = omega arith
+
+module _ (s : Style) where
+  pub summed-total : (a : Sums) (ts : List Term) → a .total ≤ sizeCap → summed s a ts .total ≡ capped (a .total + sizes ts)
+  unfolding summed sizes
+  summed-total a [] h = omega arith
+  summed-total a (t ∷ ts) h = summed-total (sumsWith a (t .weight) (fallen s t)) ts (omega arith) ∙ omega arith
+
+  pub summed-fall : (a : Sums) (ts : List Term) → a .fall ≤ sizeCap → summed s a ts .fall ≡ capped (a .fall + falls s ts)
+  unfolding summed falls fallSize
+  summed-fall a [] h = omega arith
+  summed-fall a (t ∷ ts) h = by (fallen s t) (λ x g. summed-fall x ts g)
+    where
+      by : (b : Bool) → ((x : Sums) → x .fall ≤ sizeCap → summed s x ts .fall ≡ capped (x .fall + falls s ts))
+          → summed s (sumsWith a (t .weight) b) ts .fall ≡ capped (a .fall + (cond b (natAbs (t .weight)) 0 + falls s ts))
+      by true f = f (sumsWith a (t .weight) true) (omega arith) ∙ omega arith
+      by false f = f (sumsWith a (t .weight) false) h ∙ omega arith
+
+  -- ---- the rest of the count
+
+  pub counted-sums : (a : Tally) (ts : List Term) → counted s a ts .sums ≡ summed s (a .sums) ts
+  unfolding counted summed tallyWith
+  counted-sums a [] = refl
+  counted-sums a (t ∷ ts) = counted-sums (tallyWith s a t) ts
+
+  pub counted-numbered : (a : Tally) (ts : List Term) → counted s a ts .numbered ≡ a .numbered && numbered (s .first) ts
+  unfolding counted numbered tallyWith
+  counted-numbered a [] = sym (and-true (a .numbered))
+  counted-numbered a (t ∷ ts) = counted-numbered (tallyWith s a t) ts ∙ and-assoc (a .numbered) (hasNumber s t) (numbered (s .first) ts)
+
+  pub counted-length : (a : Tally) (ts : List Term) → a .length ≤ neededLimit → numbered (s .first) ts ≡ true → counted s a ts .length ≡ needed (a .length + length (termsText s ts))
+  unfolding counted numbered tallyWith termsText joined needed
+  counted-length a [] h e = omega arith
+  counted-length a (t ∷ ts) h e =
+      let n = and-left (hasNumber s t) (numbered (s .first) ts) e in
+      let l : tallyWith s a t .length ≡ needed (a .length + length (shownText s t)) = rw n in
+      counted-length (tallyWith s a t) ts (omega (arith, l)) (and-right (hasNumber s t) (numbered (s .first) ts) e)
+      ∙ omega (arith, l, length-append (shownText s t) (termsText s ts))

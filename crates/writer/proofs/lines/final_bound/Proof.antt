@@ -1,0 +1,37 @@
+-- `final_bound` meets its contract: no bound of the second walk is beyond 64 bits.
+use borrow.Author.Needs.{needs}
+use mathlib.Core.Path.{_≡_, sym, ap, _∙_}
+use mir.Syntax.{w64}
+use mir.Val.{SFits}
+use mir.Facts.{toZ-ofZ}
+use Rattle.definitions.specs.Refusal.{accept}
+use Rattle.writer.specs.Bounds.{saidBound, printedBound}
+use Rattle.writer.proofs.lines.final_bound.Statement.{statement}
+use Rattle.writer.proofs.lines.final_bound.Tie as tie
+
+bound-said : (c : tie.After-printed-bound) → saidBound (c .printed-bound .result) ≡ printedBound (c .before .args .kind) (c .before .args .bound) (c .before .args .sums .total) (c .before .args .sums .fall)
+bound-said c = c .printed-bound .ensures ∙ rw (toZ-ofZ (c .before .fits .bound))
+
+printed-bound-requires : tie.Need-printed-bound-requires
+printed-bound-requires c κs = c .pre .falls
+
+enum-known-z : tie.Need-enum-known-z
+enum-known-z c = search needs
+
+enum-told : tie.Need-enum-told
+enum-told c = search needs
+
+returns : tie.Need-returns
+returns c =
+    let d = c .before .before .before in
+    let f : SFits w64 (c .before .z .given .0 .0) = record { sfits = c .known-told .given .0 .1 } in
+    ap accept (toZ-ofZ f) ∙ sym (ap saidBound (c .before .z .given .1)) ∙ bound-said d
+
+returns-2 : tie.Need-returns-2
+returns-2 c =
+    let d = c .before .before in
+    absurd (d .before .pre .found (sym (bound-said d) ∙ ap saidBound (c .enum-told .given .1)))
+
+pub final-bound-spec : {M : Type 1} → statement M
+final-bound-spec =
+    tie.close (tie.spec printed-bound-requires enum-known-z enum-told returns returns-2)

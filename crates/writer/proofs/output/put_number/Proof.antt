@@ -1,0 +1,40 @@
+use borrow.Author.Needs.{needs}
+use mir.Facts.{toZ-ofZ}
+use Rattle.writer.proofs.Outputs.{printed-done, printed-full}
+use Rattle.writer.proofs.output.put_number.Statement.{statement}
+use Rattle.writer.proofs.output.put_number.Tie as tie
+
+print-number-requires : tie.Need-print-number-requires
+print-number-requires c κs = search needs
+
+enum-known-end : tie.Need-enum-known-end
+enum-known-end c = search needs
+
+enum-told : tie.Need-enum-told
+enum-told c = search needs
+
+same-length : tie.Need-same-length
+same-length c = search needs
+
+returns : tie.Need-returns
+returns c =
+    printed-done (rw (toZ-ofZ (c .before .before .before .before .before .before .before .before .fits .z)) at (c .before .before .before .before .before .print-number .ensures)) (c .before .before .before .before .before .before .before .before .pre) _ (c .before .end .given .1)
+
+same-length-2 : tie.Need-same-length-2
+same-length-2 c = search needs
+
+returns-2 : tie.Need-returns-2
+returns-2 c =
+    printed-full (rw (toZ-ofZ (c .before .before .before .before .before .before .before .fits .z)) at (c .before .before .before .before .print-number .ensures)) (c .before .before .before .before .before .before .before .pre) (c .enum-told .given .1)
+
+pub put-number-spec : {M : Type 1} → statement M
+put-number-spec =
+    tie.close
+    (tie.spec
+    print-number-requires
+    enum-known-end
+    enum-told
+    same-length
+    returns
+    same-length-2
+    returns-2)
