@@ -8,7 +8,7 @@ use lib.IntN.{ℤ, pos, negsuc, negℤ, _+ℤ_}
 use Rattle.definitions.specs.Limits.{weightLimit, inI64}
 use Rattle.definitions.specs.Refusal.{needed, Checked, refuse, accept}
 use Rattle.definitions.specs.Row.{Kind, atLeast, atMost, equal, objective, Line, termsOf}
-use Rattle.definitions.specs.Table.{Table, table, Outcome, refused, accepted, Entry, Totals, totalsOf, allTerms}
+use Rattle.definitions.specs.Table.{table, Outcome, refused, accepted, Entry, Totals, totalsOf, allTerms}
 use Rattle.definitions.specs.Normal.{normalIn}
 use Rattle.columns.specs.Parts.{codesIndexed, weightSizes}
 

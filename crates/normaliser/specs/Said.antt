@@ -1,7 +1,6 @@
 -- What each case of the answers says: 01's number and values, as the definitions give them.
 use Prim.Native.Nat.{ℕ}
 use Rattle.definitions.specs.Refusal.{refusal, Checked, refuse, accept}
-use Rattle.definitions.specs.Row.{Term, term}
 use Rattle.definitions.specs.Table.{Outcome, refused, accepted, Totals, totalsOf}
 use Rattle.normaliser.specs.declared.check.RowCheck.{RowCheck}
 use Rattle.normaliser.specs.declared.check.RowCheck.the-variants as row

@@ -32,6 +32,7 @@ pub enum Counted {
     Rows { rows: usize, terms: usize },
 }
 
+// -w of a negative weight w, 0 of any other.
 fn rise_by(weight: i64) -> u64
     ensures { λ r. ⌜ r ≡ riseOf weight ⌝ }
 {
@@ -116,6 +117,7 @@ fn add_needed(count: usize, n: usize) -> usize
     count + n
 }
 
+// "A call over a table takes every row lent; rows count from 0."
 pub(crate) fn count_rows(
     kinds: &[u8],
     firsts: &[usize],

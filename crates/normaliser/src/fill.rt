@@ -30,10 +30,11 @@ fn normal_term(weight: i64, literal: Lit) -> NormalTerm
     requires { ⌜ natAbs weight ≤ weightLimit ⌝ }
     ensures { λ r. ⌜ saidTerm r ≡ normalBy weight (literal .0) ⌝ }
 {
+    let opposite = literal.negated();
     if weight < 0 {
         NormalTerm {
             weight: -weight,
-            literal: literal.negated(),
+            literal: opposite,
         }
     } else {
         NormalTerm { weight, literal }
@@ -92,6 +93,7 @@ fn fill_row(
     }
 }
 
+// Every row, from the front of the columns. Kinds and counts stay.
 pub(crate) fn fill_rows(
     kinds: &[u8],
     firsts: &[usize],

@@ -5,6 +5,7 @@ mod check;
 mod fill;
 
 use check::Counted;
+ghost use mathlib.Core.Path.{_≡_};
 ghost use Rattle.definitions.specs.Table.{table};
 ghost use Rattle.normaliser.specs.Normalises.{Normalises};
 
@@ -12,6 +13,15 @@ ghost use Rattle.normaliser.specs.Normalises.{Normalises};
 pub enum Answer {
     Refused { number: u8, place: u64 },
     Normal { rows: usize, terms: usize },
+}
+
+fn refused(number: u8, place: usize) -> Answer
+    ensures { λ r. ⌜ r ≡ Answer.Refused number place ⌝ }
+{
+    Answer::Refused {
+        number,
+        place: place as u64,
+    }
 }
 
 // "Row by row 11, 8; then 9, 10."
@@ -34,22 +44,13 @@ pub fn normalise(
         (table (now (outkinds .exit)) (now (outfirsts .exit)) (now (outcounts .exit)) (now (outbounds .exit)) (now (outweights .exit)) (now (outliterals .exit))) ⌝ }
 {
     match check::count_rows(kinds, firsts, counts, bounds, weights, literals) {
-        Counted::Refused { number, place } => Answer::Refused {
-            number,
-            place: place as u64,
-        },
+        Counted::Refused { number, place } => refused(number, place),
         Counted::Rows { rows, terms } => {
             if columns::row_room(outkinds, outfirsts, outcounts, outbounds) < rows {
-                return Answer::Refused {
-                    number: 9,
-                    place: rows as u64,
-                };
+                return refused(9, rows);
             }
             if columns::term_room(outweights, outliterals) < terms {
-                return Answer::Refused {
-                    number: 10,
-                    place: terms as u64,
-                };
+                return refused(10, terms);
             }
             fill::fill_rows(
                 kinds,

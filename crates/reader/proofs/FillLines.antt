@@ -145,6 +145,7 @@ same-table : {k k' f f' n n' l l' : List ℕ} {b b' w w' : List ℤ} → k ≡ k
 same-table p₁ p₂ p₃ p₄ p₅ p₆ = λ x. table (p₁ x) (p₂ x) (p₃ x) (p₄ x) (p₅ x) (p₆ x)
 
 module _ (o : Options) (s : List ℕ) (t₀ : Table) where
+  -- at an offset: the lines before it, how many they and their terms are, and that just these are filled
   pub record Fills (at nth term : ℕ) (t : Table) : Type 0 where
     pub pre : List Line
     pub stands : At (statement o) inFile s at pre

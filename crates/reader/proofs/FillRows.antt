@@ -43,6 +43,7 @@ sized-bounded k b ts s r n e = by (leb (sizes ts) weightLimit && inI64 b) refl
     by true q = both-right (leb (sizes ts) weightLimit) (inI64 b) q
     by false q = let c : none 8 ≡ got r n = sym (rw q) ∙ e in never (cc)
 
+-- a constraint that was read: its sum, and what closes it behind the sum
 pub record ConstraintRead (o : Options) (s : List ℕ) (r : Row) (m : ℕ) : Type 0 where
   pub taken : ℕ
   pub reads : sum o s ≡ got (r .terms) taken
@@ -72,6 +73,7 @@ pub constraint-closed : (o : Options) (s : List ℕ) (r : Row) (m : ℕ) (p : Co
     → closedBy k 0 n (comparison (take (length s - n) (drop n s))) ≡ briefRow (got r m)
 constraint-closed o s r m p n k e q = rw (part-is s n, e, q) (p .closed)
 
+-- an objective that was read: `min:` and blanks, its sum, and what closes it behind the sum
 pub record GoalRead (o : Options) (s : List ℕ) (r : Row) (m : ℕ) : Type 0 where
   pub given : ℕ
   pub start : ℕ
@@ -118,14 +120,14 @@ pub goal-closed : (o : Options) (s : List ℕ) (r : Row) (m : ℕ) (p : GoalRead
 goal-closed o s r m p n k e q = rw (part-is s n, e, q) (p .closed)
 
 -- what a call has filled, where the sum is known
-pub record SumIs (ts : List Term) (n : ℕ) (w₀ : List ℤ) (l₀ : List ℕ) (f : Filled) (w : List ℤ) (l : List ℕ) : Type 0 where
+pub record FilledIs (ts : List Term) (n : ℕ) (w₀ : List ℤ) (l₀ : List ℕ) (f : Filled) (w : List ℤ) (l : List ℕ) : Type 0 where
   pub taken : f .taken ≡ n
   pub terms : f .terms ≡ length ts
   pub filled : TermsFilled ts w₀ l₀ w l
 
-pub sum-is : (o : Options) (s : List ℕ) (ts : List Term) (n : ℕ) (w₀ : List ℤ) (l₀ : List ℕ) (f : Filled) (w : List ℤ) (l : List ℕ)
-    → sum o s ≡ got ts n → SumFilled o s w₀ l₀ f w l → SumIs ts n w₀ l₀ f w l
-sum-is o s ts n w₀ l₀ f w l e q =
+pub filled-is : (o : Options) (s : List ℕ) (ts : List Term) (n : ℕ) (w₀ : List ℤ) (l₀ : List ℕ) (f : Filled) (w : List ℤ) (l : List ℕ)
+    → sum o s ≡ got ts n → SumFilled o s w₀ l₀ f w l → FilledIs ts n w₀ l₀ f w l
+filled-is o s ts n w₀ l₀ f w l e q =
     let d : got (termsGot (sum o s)) (f .taken) ≡ got ts n = sym (q .reads) ∙ e in
     let t : termsGot (sum o s) ≡ ts = cc in
     record { taken = cc; terms = q .counts ∙ ap length t; filled = rw t at (q .filled) }
@@ -137,6 +139,7 @@ row-filled g r m w₀ l₀ a w l e p q = record { answer = p ∙ ap briefRow (sy
 
 -- ---- a statement behind its k blanks
 
+-- a row by any reader: the terms that it has, what it asks for, and what it leaves
 module _ (p : Reader Row) (k : ℕ) (s : List ℕ) where
   row-terms : rowTerms (p s) ≡ stepTerms (afterBlanks k (chain p asLine s))
   unfolding done
@@ -171,7 +174,7 @@ comment-terms k s = by (remark s) refl
     by (got (row r) m) q = remark-taken s (row r) m q .2
 
 -- a statement without terms leaves the columns as they are
-pub no-terms : (x : Step Line) (w : List ℤ) (l : List ℕ) (r : StatementRead) → stepTerms x ≡ [] → saidStatement r ≡ briefStep x → LineFilled x w l r w l
+no-terms : (x : Step Line) (w : List ℤ) (l : List ℕ) (r : StatementRead) → stepTerms x ≡ [] → saidStatement r ≡ briefStep x → LineFilled x w l r w l
 no-terms x w l r e q = record { answer = q; filled = rw e (record { weights = refl; literals = refl }) }
 
 pub comment-leaves : (k : ℕ) (s : List ℕ) (x : Step Line) (w : List ℤ) (l : List ℕ) (r : StatementRead) → afterBlanks k (remark s) ≡ x → saidStatement r ≡ briefStep x → LineFilled x w l r w l

@@ -1,7 +1,7 @@
--- What the second walk has filled so far: the loop invariants of fill.rt as records, and what a turn adds to them.
+-- What the second walk has filled so far of a sum: the loop invariant of `fill_sum` as a record, and what a term adds to it. Before that, what holds of any walk and of any column.
 use Prim.Native.Nat.{ℕ, _+_, _≤_, _<_}
 use mathlib.Core.Path.{_≡_, refl, sym, ap, _∙_}
-use mathlib.Core.List.{List, [], _∷_, _++_, map}
+use mathlib.Core.List.{List, [], _∷_, _++_, map, map-append}
 use mathlib.Core.Logic.{inl, inr}
 use types.Run.{OneOf}
 use denote.Enum.Declared.{tagOf}
@@ -22,21 +22,16 @@ use Rattle.pieces.specs.declared.term.NextTerm.the-variants as next
 use Rattle.pieces.proofs.term.NextTerm.{the-type}
 use Rattle.reader.specs.Fill.{termsGot, TermsFilled, SumFits, SumFilled}
 use Rattle.reader.proofs.Over.{over-length, over-set}
+use Rattle.reader.proofs.Sums.{never}
 
--- ---- lists
-
-pub map-snoc : {A B : Type 0} (f : A → B) (xs : List A) (a : A) → map f (xs ++ (a ∷ [])) ≡ map f xs ++ (f a ∷ [])
-map-snoc f [] a = refl
-map-snoc f (x ∷ xs) a = ap (λ r. f x ∷ r) (map-snoc f xs a)
-
--- a column that holds f of each: as long as it was, and one more
+-- ---- a column that holds f of each: as long as it was, and one more
 module _ {A B : Type 0} (f : A → B) (pre : List A) (l₀ l : List B) (e : l ≡ over (map f pre) l₀) where
   pub column-length : length pre ≤ length l₀ → length l ≡ length l₀
   column-length h = ap length e ∙ over-length (map f pre) l₀ (omega (arith, length-map pre f))
 
   pub column-more : (n : ℕ) (a : A) → n ≡ length pre → n < length l₀ → set l n (f a) ≡ over (map f (pre ++ (a ∷ []))) l₀
   column-more n a q h =
-      ap (λ (x : List B). set x n (f a)) e ∙ over-set (map f pre) l₀ n (f a) (q ∙ sym (length-map pre f)) h ∙ ap (λ (x : List B). over x l₀) (sym (map-snoc f pre a))
+      ap (λ (x : List B). set x n (f a)) e ∙ over-set (map f pre) l₀ n (f a) (q ∙ sym (length-map pre f)) h ∙ ap (λ (x : List B). over x l₀) (sym (map-append f pre (a ∷ [])))
 
 -- ---- the items before a place of a walk that reads well are the first of all
 pub record Prefix {A : Type 0} (pre xs : List A) : Type 0 where
@@ -44,7 +39,7 @@ pub record Prefix {A : Type 0} (pre xs : List A) : Type 0 where
   pub is : xs ≡ pre ++ rest
 
 prefix-of : {A : Type 0} (pre xs : List A) (n : ℕ) (o : Walked A) → items xs n ≡ onto pre o → Prefix pre xs
-prefix-of pre xs n (broken r) e = let z : _≡_ {A = ℕ} 0 1 = cc in absurd (omega arith)
+prefix-of pre xs n (broken r) e = never (cc)
 prefix-of pre xs n (items ys m) e = record { rest = ys; is = cc }
 
 pub at-prefix : {A : Type 0} (step : List ℕ → Step A) (place : ℕ → A → A) (s : List ℕ) (at : ℕ) (pre xs : List A) (n : ℕ)
@@ -55,24 +50,25 @@ pub prefix-length : {A : Type 0} (pre xs : List A) → Prefix pre xs → length 
 prefix-length pre xs p = omega (arith, ap length (p .is), length-append pre (p .rest))
 
 pub never-broken : {A : Type 0} {x : Walked A} {r : _} {xs : List A} {n : ℕ} → x ≡ broken r → x ≡ items xs n → ⊥
-never-broken p q = let z : _≡_ {A = ℕ} 0 1 = cc in omega arith
+never-broken p q = never (cc)
 
 -- ---- a sum's terms
 
 -- an answer that is no term
-pub no-term : (r : NextTerm) → OneOf (1 ∷ 2 ∷ []) (tagOf the-type r) → (t : Term) (n : ℕ) → saidNext r ≡ item t n → ⊥
+no-term : (r : NextTerm) → OneOf (1 ∷ 2 ∷ []) (tagOf the-type r) → (t : Term) (n : ℕ) → saidNext r ≡ item t n → ⊥
 no-term (next.Term w l m) (inl k) t n e = omega arith
 no-term (next.Term w l m) (inr k) t n e = omega arith
-no-term (next.Refused x) k t n e = let z : _≡_ {A = ℕ} 0 1 = cc in omega arith
-no-term next.Stop k t n e = let z : _≡_ {A = ℕ} 0 1 = cc in omega arith
+no-term (next.Refused x) k t n e = never (cc)
+no-term next.Stop k t n e = never (cc)
 
+-- a sum that was got is a walk over all its terms
 module _ (o : Options) (s : List ℕ) where
   sum-items : (ts : List Term) (n : ℕ) → sum o s ≡ got ts n → all (termStep o) anywhere s ≡ items ts n
   unfolding sum
   sum-items ts n e = by (all (termStep o) anywhere s) e
     where
       by : (x : Walked Term) → asGot x ≡ got ts n → x ≡ items ts n
-      by (broken r) q = let z : _≡_ {A = ℕ} 0 1 = cc in absurd (omega arith)
+      by (broken r) q = never (cc)
       by (items xs m) q = let a : xs ≡ ts = cc in let b : m ≡ n = cc in cc
 
   items-sum : (ts : List Term) (n : ℕ) → all (termStep o) anywhere s ≡ items ts n → sum o s ≡ got ts n
@@ -80,6 +76,7 @@ module _ (o : Options) (s : List ℕ) where
   items-sum ts n e = ap asGot e
 
 module _ (o : Options) (s : List ℕ) (w₀ : List ℤ) (l₀ : List ℕ) where
+  -- at an offset: the terms before it, how many they are, and that just these are filled
   pub record SumFills (at terms : ℕ) (w : List ℤ) (l : List ℕ) : Type 0 where
     pub pre : List Term
     pub stands : At (termStep o) anywhere s at pre

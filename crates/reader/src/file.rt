@@ -37,11 +37,8 @@ pub fn parse_opb_data(
     match crate::count::count_file(s, options) {
         Counted::Refused { number, place } => Answer::Refused { number, place },
         Counted::Table { rows, terms } => {
-            let row_room = columns::lesser(
-                kinds.len(),
-                columns::lesser(firsts.len(), columns::lesser(counts.len(), bounds.len())),
-            );
-            let term_room = columns::lesser(weights.len(), literals.len());
+            let row_room = columns::row_room(kinds, firsts, counts, bounds);
+            let term_room = columns::term_room(weights, literals);
             if row_room < rows {
                 return Answer::Refused {
                     number: 9,

@@ -67,11 +67,17 @@ count-rows-requires c κs = search needs
 enum-known-number : tie.Need-enum-known-number
 enum-known-number c = search needs
 
+refused-requires : tie.Need-refused-requires
+refused-requires c κs = search needs
+
 enum-known-rows : tie.Need-enum-known-rows
 enum-known-rows c = search needs
 
 row-room-requires : tie.Need-row-room-requires
 row-room-requires c κs = search needs
+
+refused-requires-2 : tie.Need-refused-requires-2
+refused-requires-2 c κs = search needs
 
 same-length : tie.Need-same-length
 same-length c = search needs
@@ -87,11 +93,17 @@ same-length-4 c = search needs
 
 returns : tie.Need-returns
 returns c =
-    let d = told (c .before) in
-    answer-rows (lent (walk d)) (given (walk d)) (rows d) (terms d) (counts d) (omega (arith, row-room-is (c .before), c .if1 .taken)) (omega (arith, c .before .before .before .before .before .before .known-told2 .given))
+    let b = c .before in
+    let d = told (b .before) in
+    rw (c .refused2 .ensures)
+    (answer-rows (lent (walk d)) (given (walk d)) (rows d) (terms d) (counts d) (omega (arith, row-room-is (b .before), b .if1 .taken))
+    (omega (arith, b .before .before .before .before .before .before .known-told2 .given)))
 
 term-room-requires : tie.Need-term-room-requires
 term-room-requires c κs = search needs
+
+refused-requires-3 : tie.Need-refused-requires-3
+refused-requires-3 c κs = search needs
 
 same-length-5 : tie.Need-same-length-5
 same-length-5 c = search needs
@@ -113,8 +125,10 @@ same-length-10 c = search needs
 
 returns-2 : tie.Need-returns-2
 returns-2 c =
-    let d = told (counted (c .before)) in
-    answer-terms (lent (walk d)) (given (walk d)) (rows d) (terms d) (counts d) (rows-fit (c .before .before .before .before)) (omega (arith, term-room-is (c .before), c .if2 .taken))
+    let b = c .before in
+    let d = told (counted (b .before)) in
+    rw (c .refused3 .ensures)
+    (answer-terms (lent (walk d)) (given (walk d)) (rows d) (terms d) (counts d) (rows-fit (b .before .before .before .before)) (omega (arith, term-room-is (b .before), b .if2 .taken)))
 
 fill-rows-requires : tie.Need-fill-rows-requires
 fill-rows-requires c κs =
@@ -124,8 +138,9 @@ fill-rows-requires c κs =
 
 returns-3 : tie.Need-returns-3
 returns-3 c =
-    let d = c .before .before .before in
-    answer-refused (lent d) (given d) (d .count-rows .result) _ _ (c .before .number .given .1) (d .count-rows .ensures)
+    let b = c .before in
+    let d = b .before .before .before in
+    rw (c .refused .ensures) (answer-refused (lent d) (given d) (d .count-rows .result) _ _ (b .before .number .given .1) (d .count-rows .ensures))
 
 same-length-11 : tie.Need-same-length-11
 same-length-11 c = search needs
@@ -160,14 +175,17 @@ normalise-spec =
     (tie.spec
     count-rows-requires
     enum-known-number
+    refused-requires
     enum-known-rows
     row-room-requires
+    refused-requires-2
     same-length
     same-length-2
     same-length-3
     same-length-4
     returns
     term-room-requires
+    refused-requires-3
     same-length-5
     same-length-6
     same-length-7

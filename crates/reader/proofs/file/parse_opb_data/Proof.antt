@@ -1,5 +1,5 @@
 -- `parse_opb_data` meets its contract: 1, what the first walk refuses, 9, 10, and the whole table (proofs/Files.antt).
-use Prim.Native.Nat.{ℕ, min, _≤_}
+use Prim.Native.Nat.{ℕ, _≤_}
 use mathlib.Core.Path.{_≡_, sym, ap, _∙_}
 use mathlib.Core.List.{List}
 use native.Mathlib.Omega.{arith}
@@ -30,9 +30,12 @@ module _ (c : tie.Else1) where
   short = c .if1 .left
 
 -- the file has read well, and the room was measured
-module _ (c : tie.After-lesser4) where
+module _ (c : tie.After-term-room) where
+  abbrev rows-measured : tie.After-row-room
+  rows-measured = c .before .before .before
+
   abbrev told : tie.After-rows
-  told = c .before .before .before .before .before
+  told = rows-measured .before .before .before .before .before .before
 
   abbrev begun : tie.Else1
   begun = told .before .before .before
@@ -46,17 +49,15 @@ module _ (c : tie.After-lesser4) where
   found : LinesAre (statements (start begun .args .options) (text (start begun))) many-rows many-terms
   found = totals-accepted _ many-rows many-terms (sym (ap saidCounted (told .rows .given .1)) ∙ told .before .before .count-file .ensures)
 
-  rows-room : c .before .lesser3 .result ≡ rowRoom (lent (start begun))
-  rows-room =
-      c .before .lesser3 .ensures
-      ∙ ap (min (length (lent (start begun) .kinds))) (c .before .before .lesser2 .ensures ∙ ap (min (length (lent (start begun) .firsts))) (c .before .before .before .lesser .ensures))
+  rows-room : rows-measured .row-room .result ≡ rowRoom (lent (start begun))
+  rows-room = rows-measured .row-room .ensures
 
-  terms-room : c .lesser4 .result ≡ termRoom (lent (start begun))
-  terms-room = c .lesser4 .ensures
+  terms-room : c .term-room .result ≡ termRoom (lent (start begun))
+  terms-room = c .term-room .ensures
 
 -- both fit
 module _ (c : tie.Else3) where
-  abbrev measured : tie.After-lesser4
+  abbrev measured : tie.After-term-room
   measured = c .before .before
 
   rows-fit : many-rows measured ≤ rowRoom (lent (start (begun measured)))
@@ -77,40 +78,11 @@ enum-known-number c = search needs
 enum-known-rows : tie.Need-enum-known-rows
 enum-known-rows c = search needs
 
-lesser-requires : tie.Need-lesser-requires
-lesser-requires c κs = search needs
+row-room-requires : tie.Need-row-room-requires
+row-room-requires c κs = search needs
 
-lesser-requires-2 : tie.Need-lesser-requires-2
-lesser-requires-2 c κs = search needs
-
-lesser-requires-3 : tie.Need-lesser-requires-3
-lesser-requires-3 c κs = search needs
-
-lesser-requires-4 : tie.Need-lesser-requires-4
-lesser-requires-4 c κs = search needs
-
-returns-2 : tie.Need-returns-2
-returns-2 c =
-    let d = c .before in
-    let e = begun d in
-    read-rows _ _ (lent (start e)) (short e) _ _ (found d) (omega (arith, rows-room d, c .if2 .taken))
-
-returns-3 : tie.Need-returns-3
-returns-3 c =
-    let d = c .before .before in
-    let e = begun d in
-    read-terms _ _ (lent (start e)) (short e) _ _ (found d) (omega (arith, rows-room d, c .before .if2 .left)) (omega (arith, terms-room d, c .if3 .taken))
-
-fill-file-requires : tie.Need-fill-file-requires
-fill-file-requires c κs =
-    let f = c .before .before .before .before .before .before in
-    let e = begun (measured f) in
-    ready _ _ (lent (start e)) (short e) _ _ (found (measured f)) (rows-fit f) (terms-fit f)
-
-returns-4 : tie.Need-returns-4
-returns-4 c =
-    let d = c .before .before .before in
-    read-broken _ _ _ (short (d .before)) _ _ (sym (ap saidCounted (c .before .number .given .1)) ∙ d .count-file .ensures)
+term-room-requires : tie.Need-term-room-requires
+term-room-requires c κs = search needs
 
 same-length : tie.Need-same-length
 same-length c = search needs
@@ -130,6 +102,65 @@ same-length-5 c = search needs
 same-length-6 : tie.Need-same-length-6
 same-length-6 c = search needs
 
+returns-2 : tie.Need-returns-2
+returns-2 c =
+    let d = c .before in
+    let e = begun d in
+    read-rows _ _ (lent (start e)) (short e) _ _ (found d) (omega (arith, rows-room d, c .if2 .taken))
+
+same-length-7 : tie.Need-same-length-7
+same-length-7 c = search needs
+
+same-length-8 : tie.Need-same-length-8
+same-length-8 c = search needs
+
+same-length-9 : tie.Need-same-length-9
+same-length-9 c = search needs
+
+same-length-10 : tie.Need-same-length-10
+same-length-10 c = search needs
+
+same-length-11 : tie.Need-same-length-11
+same-length-11 c = search needs
+
+same-length-12 : tie.Need-same-length-12
+same-length-12 c = search needs
+
+returns-3 : tie.Need-returns-3
+returns-3 c =
+    let d = c .before .before in
+    let e = begun d in
+    read-terms _ _ (lent (start e)) (short e) _ _ (found d) (omega (arith, rows-room d, c .before .if2 .left)) (omega (arith, terms-room d, c .if3 .taken))
+
+fill-file-requires : tie.Need-fill-file-requires
+fill-file-requires c κs =
+    let f = c .before .before .before .before .before .before in
+    let e = begun (measured f) in
+    ready _ _ (lent (start e)) (short e) _ _ (found (measured f)) (rows-fit f) (terms-fit f)
+
+returns-4 : tie.Need-returns-4
+returns-4 c =
+    let d = c .before .before .before in
+    read-broken _ _ _ (short (d .before)) _ _ (sym (ap saidCounted (c .before .number .given .1)) ∙ d .count-file .ensures)
+
+same-length-13 : tie.Need-same-length-13
+same-length-13 c = search needs
+
+same-length-14 : tie.Need-same-length-14
+same-length-14 c = search needs
+
+same-length-15 : tie.Need-same-length-15
+same-length-15 c = search needs
+
+same-length-16 : tie.Need-same-length-16
+same-length-16 c = search needs
+
+same-length-17 : tie.Need-same-length-17
+same-length-17 c = search needs
+
+same-length-18 : tie.Need-same-length-18
+same-length-18 c = search needs
+
 returns-5 : tie.Need-returns-5
 returns-5 c =
     let g = c .before .before .before .before .before .before .before .before .before .before in
@@ -148,18 +179,28 @@ parse-opb-data-spec =
     count-file-requires
     enum-known-number
     enum-known-rows
-    lesser-requires
-    lesser-requires-2
-    lesser-requires-3
-    lesser-requires-4
-    returns-2
-    returns-3
-    fill-file-requires
-    returns-4
+    row-room-requires
+    term-room-requires
     same-length
     same-length-2
     same-length-3
     same-length-4
     same-length-5
     same-length-6
+    returns-2
+    same-length-7
+    same-length-8
+    same-length-9
+    same-length-10
+    same-length-11
+    same-length-12
+    returns-3
+    fill-file-requires
+    returns-4
+    same-length-13
+    same-length-14
+    same-length-15
+    same-length-16
+    same-length-17
+    same-length-18
     returns-5)

@@ -6,7 +6,7 @@ use borrow.Author.Needs.{needs}
 use denote.Ref.{now}
 use lib.ListN.{length}
 use Rattle.definitions.proofs.Statements.{sum-within}
-use Rattle.reader.proofs.FillRows.{ConstraintRead, constraint-read, constraint-closed, sum-is, row-filled}
+use Rattle.reader.proofs.FillRows.{ConstraintRead, constraint-read, constraint-closed, filled-is, row-filled}
 use Rattle.reader.proofs.fill.fill_constraint.Statement.{statement}
 use Rattle.reader.proofs.fill.fill_constraint.Tie as tie
 
@@ -56,7 +56,7 @@ returns c =
     let s = start (c .before .before) in
     let r = s .pre .given in
     let p = parts s in
-    let q = sum-is (s .args .options) (text s) (r .terms) (p .taken) _ _ (f .fill-sum .result) _ _ (p .reads) (f .fill-sum .ensures) in
+    let q = filled-is (s .args .options) (text s) (r .terms) (p .taken) _ _ (f .fill-sum .result) _ _ (p .reads) (f .fill-sum .ensures) in
     row-filled _ r (s .pre .taken) _ _ (c .close-constraint .result) _ _ (s .pre .reads)
     (c .close-constraint .ensures ∙ constraint-closed (s .args .options) (text s) r (s .pre .taken) p _ _ (q .taken) (q .terms))
     (q .filled)

@@ -9,7 +9,7 @@ use lib.ListN.{length, length-drop}
 use Rattle.definitions.proofs.Parts.{part-is}
 use Rattle.definitions.proofs.Statements.{sum-within, within-min-blanks}
 use Rattle.pieces.specs.Said.{saidMin}
-use Rattle.reader.proofs.FillRows.{GoalRead, goal-read, goal-begins, goal-start, goal-closed, SumIs, sum-is, row-filled}
+use Rattle.reader.proofs.FillRows.{GoalRead, goal-read, goal-begins, goal-start, goal-closed, FilledIs, filled-is, row-filled}
 use Rattle.reader.proofs.fill.fill_objective.Statement.{statement}
 use Rattle.reader.proofs.fill.fill_objective.Tie as tie
 
@@ -56,8 +56,8 @@ module _ (c : tie.After-fill-sum) where
       let h = sum-within _ _ _ _ (c .fill-sum .ensures .reads) .0 in
       omega (arith, start-within behind-min, h, ap length (part-is (text at-start) n), length-drop n (text at-start))
 
-  known : SumIs (at-start .pre .given .terms) (parts at-start .taken) (now (at-start .args .weights)) (now (at-start .args .literals)) (c .fill-sum .result) (c .fill-sum .last .1 .1 .0) (c .fill-sum .last .1 .1 .1 .0)
-  known = sum-is _ _ _ _ _ _ (c .fill-sum .result) _ _ (rw (part-is (text at-start) (sum-start behind-min), start-is behind-min) (parts at-start .reads)) (c .fill-sum .ensures)
+  known : FilledIs (at-start .pre .given .terms) (parts at-start .taken) (now (at-start .args .weights)) (now (at-start .args .literals)) (c .fill-sum .result) (c .fill-sum .last .1 .1 .0) (c .fill-sum .last .1 .1 .1 .0)
+  known = filled-is _ _ _ _ _ _ (c .fill-sum .result) _ _ (rw (part-is (text at-start) (sum-start behind-min), start-is behind-min) (parts at-start .reads)) (c .fill-sum .ensures)
 
 read-min-requires : tie.Need-read-min-requires
 read-min-requires c κs = search needs

@@ -1,0 +1,51 @@
+-- `show_counts` is safe and ends.
+use Prim.Native.Nat.{_-_, _≤_}
+use lib.ListN.{length}
+use borrow.Author.Needs.{needs}
+use Rattle.reader_run.proofs.show_counts.Statement.{statement}
+use Rattle.reader_run.proofs.show_counts.Tie as tie
+
+abbrev Inv-loop : tie.InvT-loop
+Inv-loop s i₀ i = i ≤ length s
+
+abbrev μ-loop : tie.MeasureT-loop
+μ-loop s i₀ i = length s - i
+
+loop-holds : tie.Need-loop-holds Inv-loop μ-loop
+loop-holds c = search needs
+
+mul-say-count : tie.Need-mul-say-count Inv-loop μ-loop
+mul-say-count c = search needs
+
+shared-slice-read-say-count : tie.Need-shared-slice-read-say-count Inv-loop μ-loop
+shared-slice-read-say-count c = search needs
+
+say-count-requires : tie.Need-say-count-requires Inv-loop μ-loop
+say-count-requires c κs = search needs
+
+add-i : tie.Need-add-i Inv-loop μ-loop
+add-i c = search needs
+
+loop-less : tie.Need-loop-less Inv-loop μ-loop
+loop-less c = search needs
+
+loop-again : tie.Need-loop-again Inv-loop μ-loop
+loop-again c = search needs
+
+returns : tie.Need-returns Inv-loop μ-loop
+returns c = search needs
+
+pub show-counts-spec : {M : Type 1} → statement M
+show-counts-spec =
+    tie.close
+    (tie.spec
+    Inv-loop
+    μ-loop
+    loop-holds
+    mul-say-count
+    shared-slice-read-say-count
+    say-count-requires
+    add-i
+    loop-less
+    loop-again
+    returns)

@@ -1,0 +1,51 @@
+-- `show_numbers` is safe and ends.
+use Prim.Native.Nat.{_-_, _≤_}
+use lib.ListN.{length}
+use borrow.Author.Needs.{needs}
+use Rattle.reader_run.proofs.show_numbers.Statement.{statement}
+use Rattle.reader_run.proofs.show_numbers.Tie as tie
+
+abbrev Inv-loop : tie.InvT-loop
+Inv-loop s i₀ i = i ≤ length s
+
+abbrev μ-loop : tie.MeasureT-loop
+μ-loop s i₀ i = length s - i
+
+loop-holds : tie.Need-loop-holds Inv-loop μ-loop
+loop-holds c = search needs
+
+mul-say-number : tie.Need-mul-say-number Inv-loop μ-loop
+mul-say-number c = search needs
+
+shared-slice-copy-out-say-number : tie.Need-shared-slice-copy-out-say-number Inv-loop μ-loop
+shared-slice-copy-out-say-number c = search needs
+
+say-number-requires : tie.Need-say-number-requires Inv-loop μ-loop
+say-number-requires c κs = search needs
+
+add-i : tie.Need-add-i Inv-loop μ-loop
+add-i c = search needs
+
+loop-less : tie.Need-loop-less Inv-loop μ-loop
+loop-less c = search needs
+
+loop-again : tie.Need-loop-again Inv-loop μ-loop
+loop-again c = search needs
+
+returns : tie.Need-returns Inv-loop μ-loop
+returns c = search needs
+
+pub show-numbers-spec : {M : Type 1} → statement M
+show-numbers-spec =
+    tie.close
+    (tie.spec
+    Inv-loop
+    μ-loop
+    loop-holds
+    mul-say-number
+    shared-slice-copy-out-say-number
+    say-number-requires
+    add-i
+    loop-less
+    loop-again
+    returns)
