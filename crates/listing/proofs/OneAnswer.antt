@@ -8,7 +8,7 @@ use Rattle.listing.proofs.list_file.Reads as list-file
 pub list-file-one : (κs : _) (a : _) (r r' : _) (s s' : _) → list-file.Post κs a r s → list-file.Post κs a r' s'
     → (r ≡ r')
     × (table (now (s .1 .1 .0)) (now (s .1 .1 .1 .0)) (now (s .1 .1 .1 .1 .0)) (now (s .1 .1 .1 .1 .1 .0)) (now (s .1 .1 .1 .1 .1 .1 .0)) (now (s .1 .1 .1 .1 .1 .1 .1 .0))
-      ≡ table (now (s' .1 .1 .0)) (now (s' .1 .1 .1 .0)) (now (s' .1 .1 .1 .1 .0)) (now (s' .1 .1 .1 .1 .1 .0)) (now (s' .1 .1 .1 .1 .1 .1 .0)) (now (s' .1 .1 .1 .1 .1 .1 .1 .0)))
+    ≡ table (now (s' .1 .1 .0)) (now (s' .1 .1 .1 .0)) (now (s' .1 .1 .1 .1 .0)) (now (s' .1 .1 .1 .1 .1 .0)) (now (s' .1 .1 .1 .1 .1 .1 .0)) (now (s' .1 .1 .1 .1 .1 .1 .1 .0)))
     × (now (s .1 .1 .1 .1 .1 .1 .1 .1 .0) ≡ now (s' .1 .1 .1 .1 .1 .1 .1 .1 .0))
 list-file-one κs a r r' s s' p q =
     (put-one r r' (p .prints .answer ∙ sym (q .prints .answer)), p .after ∙ sym (q .after), p .prints .after ∙ sym (q .prints .after))

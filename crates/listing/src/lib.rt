@@ -4,7 +4,6 @@ use definitions::Options;
 use house::Listed;
 use numbers::Put;
 use reader::Answer;
-
 ghost use Rattle.definitions.specs.Table.{table};
 ghost use Rattle.listing.specs.ListsFile.{ListsFile};
 
@@ -24,12 +23,34 @@ pub fn list_file(
         (table (now (kinds .exit)) (now (firsts .exit)) (now (counts .exit)) (now (bounds .exit)) (now (weights .exit)) (now (literals .exit))) (now (out .exit)) ⌝ }
 {
     let options = Options { first };
-    match reader::parse_opb_data(file, options, kinds, firsts, counts, bounds, weights, literals) {
+    match reader::parse_opb_data(
+        file,
+        options,
+        kinds,
+        firsts,
+        counts,
+        bounds,
+        weights,
+        literals,
+    ) {
         Answer::Refused { number, place } => house::list_refusal(number, place as u64, out),
         Answer::Read { rows, terms: _ } => {
-            match house::list_table(kinds, firsts, counts, bounds, weights, literals, rows, first, out) {
+            match house::list_table(
+                kinds,
+                firsts,
+                counts,
+                bounds,
+                weights,
+                literals,
+                rows,
+                first,
+                out,
+            ) {
                 Listed::Listed(length) => Put::Done(length),
-                Listed::Refused { number: _, place: _ } => Put::Full,
+                Listed::Refused {
+                    number: _,
+                    place: _,
+                } => Put::Full,
             }
         }
     }

@@ -4,7 +4,6 @@ use libc::STDERR_FILENO;
 use libc::STDIN_FILENO;
 use libc::STDOUT_FILENO;
 use numbers::Put;
-
 ghost use lib.ListN.{length};
 ghost use Rattle.opblist.specs.Within.{InputWithin, PutWithin};
 
@@ -52,7 +51,17 @@ fn list(file: &[u8], out: &mut [u8]) -> Put
     let mut bounds = [0i64; 4096];
     let mut weights = [0i64; 8192];
     let mut literals = [0u32; 8192];
-    listing::list_file(file, 1, &mut kinds, &mut firsts, &mut counts, &mut bounds, &mut weights, &mut literals, out)
+    listing::list_file(
+        file,
+        1,
+        &mut kinds,
+        &mut firsts,
+        &mut counts,
+        &mut bounds,
+        &mut weights,
+        &mut literals,
+        out,
+    )
 }
 
 // What was put into `out`.
