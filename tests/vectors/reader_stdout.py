@@ -319,4 +319,5 @@ def main():
             wanted.write(case + " => " + shown(*answer(sizes, first, data)) + "\n")
 
 
-main()
+if __name__ == "__main__":
+    main()

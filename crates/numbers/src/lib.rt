@@ -194,11 +194,11 @@ fn print_negative(m: u64, out: &mut [u8], at: usize) -> Put
     Put::Done(at + 1 + n)
 }
 
-pub fn print_number(z: i64, out: &mut [u8], at: usize) -> Put
-    ensures { λ r. ⌜ Prints (integerText z) at (now (out .entry)) r (now (out .exit)) ⌝ }
+pub fn print_number(value: i64, out: &mut [u8], at: usize) -> Put
+    ensures { λ r. ⌜ Prints (integerText value) at (now (out .entry)) r (now (out .exit)) ⌝ }
 {
-    let m = magnitude(z);
-    if z < 0 {
+    let m = magnitude(value);
+    if value < 0 {
         print_negative(m, out, at)
     } else {
         print_count(m, out, at)

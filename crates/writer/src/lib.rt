@@ -46,13 +46,13 @@ fn needed_length(
 {
     let rows = columns::row_room(kinds, firsts, counts, bounds);
     let mut length: u64 = 0;
-    let mut i: usize = 0;
-    while i < rows {
+    let mut row: usize = 0;
+    while row < rows {
         match entry_length(
-            kinds[i],
-            firsts[i],
-            counts[i],
-            bounds[i],
+            kinds[row],
+            firsts[row],
+            counts[row],
+            bounds[row],
             weights,
             literals,
             text,
@@ -64,11 +64,11 @@ fn needed_length(
             Measured::Refused(number) => {
                 return Needed::Refused {
                     number,
-                    place: i as u64,
+                    place: row as u64,
                 };
             }
         }
-        i += 1;
+        row += 1;
     }
     Needed::Length(length)
 }

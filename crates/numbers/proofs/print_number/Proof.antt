@@ -8,8 +8,8 @@ use Rattle.definitions.proofs.Numbers.{size-fits, integer-text-negative, intege
 use Rattle.numbers.proofs.print_number.Statement.{statement}
 use Rattle.numbers.proofs.print_number.Tie as tie
 
-size : (c : tie.After-magnitude) → c .magnitude .result ≡ natAbs (c .before .before .args .z)
-size c = c .magnitude .ensures ∙ ap natAbs (toZ-ofZ (c .before .before .fits .z))
+size : (c : tie.After-magnitude) → c .magnitude .result ≡ natAbs (c .before .before .args .value)
+size c = c .magnitude .ensures ∙ ap natAbs (toZ-ofZ (c .before .before .fits .value))
 
 magnitude-requires : tie.Need-magnitude-requires
 magnitude-requires c κs = search needs
@@ -17,7 +17,7 @@ magnitude-requires c κs = search needs
 print-negative-requires : tie.Need-print-negative-requires
 print-negative-requires c κs =
     let s = c .before .before .before .before in
-    omega (arith, size (c .before .before), size-fits (s .args .z) (s .fits .z))
+    omega (arith, size (c .before .before), size-fits (s .args .value) (s .fits .value))
 
 print-count-requires : tie.Need-print-count-requires
 print-count-requires c κs = search needs
@@ -29,7 +29,7 @@ returns : tie.Need-returns
 returns c =
     let t = c .before .before .before .before in
     let s = t .before .before .before in
-    rw (integer-text-negative (s .args .z) (rw (toZ-ofZ (s .fits .z)) at (t .if1 .taken))) (rw (size (t .before)) at (c .before .before .print-negative .ensures))
+    rw (integer-text-negative (s .args .value) (rw (toZ-ofZ (s .fits .value)) at (t .if1 .taken))) (rw (size (t .before)) at (c .before .before .print-negative .ensures))
 
 same-length-2 : tie.Need-same-length-2
 same-length-2 c = search needs
@@ -38,7 +38,7 @@ returns-2 : tie.Need-returns-2
 returns-2 c =
     let e = c .before .before .before .before in
     let s = e .before .before .before in
-    rw (integer-text-positive (s .args .z) (rw (toZ-ofZ (s .fits .z)) at (e .if1 .left))) (rw (size (e .before)) at (c .before .before .print-count .ensures))
+    rw (integer-text-positive (s .args .value) (rw (toZ-ofZ (s .fits .value)) at (e .if1 .left))) (rw (size (e .before)) at (c .before .before .print-count .ensures))
 
 pub print-number-spec : {M : Type 1} → statement M
 print-number-spec =

@@ -19,10 +19,10 @@ use Rattle.writer.proofs.needed_length.Statement.{statement}
 use Rattle.writer.proofs.needed_length.Tie as tie
 
 abbrev Inv-loop : tie.InvT-loop
-Inv-loop kinds firsts counts bounds weights literals text mode rows length₀ i₀ length i = Counting mode (table kinds firsts counts bounds weights literals) text i length
+Inv-loop kinds firsts counts bounds weights literals text mode rows length₀ row₀ length row = Counting mode (table kinds firsts counts bounds weights literals) text row length
 
 abbrev μ-loop : tie.MeasureT-loop
-μ-loop kinds firsts counts bounds weights literals text mode rows length₀ i₀ length i = rows - i
+μ-loop kinds firsts counts bounds weights literals text mode rows length₀ row₀ length row = rows - row
 
 module _ (c : tie.In-loop Inv-loop μ-loop) where
   abbrev turn : tie.At-loop Inv-loop μ-loop
@@ -34,7 +34,7 @@ module _ (c : tie.In-loop Inv-loop μ-loop) where
   abbrev rows-of : Table
   rows-of = table (now (start .args .kinds)) (now (start .args .firsts)) (now (start .args .counts)) (now (start .args .bounds)) (now (start .args .weights)) (now (start .args .literals))
 
-  below : turn .loop .i < rowRoom rows-of
+  below : turn .loop .row < rowRoom rows-of
   below = omega (arith, c .loop-test .taken, turn .before .row-room .ensures)
 
 module _ (c : tie.After-entry-length Inv-loop μ-loop) where
@@ -44,14 +44,14 @@ module _ (c : tie.After-entry-length Inv-loop μ-loop) where
   abbrev args-of : tie.Start Inv-loop μ-loop
   args-of = start looped
 
-  bound-fits : SFits w64 (getD (now (args-of .args .bounds)) (turn looped .loop .i) (pos 0))
+  bound-fits : SFits w64 (getD (now (args-of .args .bounds)) (turn looped .loop .row) (pos 0))
   bound-fits = record { sfits = c .before .entry-length-arg .given }
 
-  said : saidMeasured (c .entry-length .result) ≡ measured (args-of .args .mode) (writtenIn (args-of .args .mode) (onColumns (now (args-of .args .weights)) (now (args-of .args .literals))) (now (args-of .args .text)) (entryAt (rows-of looped) (turn looped .loop .i)))
+  said : saidMeasured (c .entry-length .result) ≡ measured (args-of .args .mode) (writtenIn (args-of .args .mode) (onColumns (now (args-of .args .weights)) (now (args-of .args .literals))) (now (args-of .args .text)) (entryAt (rows-of looped) (turn looped .loop .row)))
   said =
       c .entry-length .ensures
       ∙ ap (λ (b : ℤ). measured (args-of .args .mode) (writtenIn (args-of .args .mode) (onColumns (now (args-of .args .weights)) (now (args-of .args .literals))) (now (args-of .args .text))
-      (entryOf (getD (now (args-of .args .kinds)) (turn looped .loop .i) 0) (getD (now (args-of .args .firsts)) (turn looped .loop .i) 0) (getD (now (args-of .args .counts)) (turn looped .loop .i) 0) b))) (toZ-ofZ bound-fits)
+      (entryOf (getD (now (args-of .args .kinds)) (turn looped .loop .row) 0) (getD (now (args-of .args .firsts)) (turn looped .loop .row) 0) (getD (now (args-of .args .counts)) (turn looped .loop .row) 0) b))) (toZ-ofZ bound-fits)
 
 row-room-requires : tie.Need-row-room-requires Inv-loop μ-loop
 row-room-requires c κs = tt
@@ -99,8 +99,8 @@ returns c =
     counting-refused (args-of d .args .mode) (rows-of l) (now (args-of d .args .text)) (turn l .loop .inv) (below l) (saidMeasured (d .entry-length .result)) (said d)
     _ (ap saidMeasured (c .before .number .given .1))
 
-add-i : tie.Need-add-i Inv-loop μ-loop
-add-i c = omega (arith, below (looped (c .before .before .before .before)), start (looped (c .before .before .before .before)) .good)
+add-row : tie.Need-add-row Inv-loop μ-loop
+add-row c = omega (arith, below (looped (c .before .before .before .before)), start (looped (c .before .before .before .before)) .good)
 
 loop-less : tie.Need-loop-less Inv-loop μ-loop
 loop-less c = omega (arith, looped (c .before .before .before .before) .loop-test .taken)
@@ -137,7 +137,7 @@ needed-length-spec =
     add-length-requires
     enum-known-number
     returns
-    add-i
+    add-row
     loop-less
     loop-again
     returns-2)

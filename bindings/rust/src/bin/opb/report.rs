@@ -1,0 +1,107 @@
+//! Refusals as a person needs them.
+use crate::input::Input;
+use opb::{Reason, Refusal};
+
+/// How many bytes of a line are shown, and how many of them before the place.
+const SHOWN: usize = 72;
+const BEFORE: usize = 24;
+
+/// A line of a file: its number, from 1, its bytes, and the offset of its first.
+struct Line<'a> {
+    number: usize,
+    bytes: &'a [u8],
+    start: usize,
+}
+
+fn lines(file: &[u8]) -> impl Iterator<Item = Line<'_>> {
+    let mut start = 0;
+    file.split_inclusive(|byte| *byte == b'\n').enumerate().map(move |(i, bytes)| {
+        let line = Line { number: i + 1, bytes, start };
+        start += bytes.len();
+        line
+    })
+}
+
+/// The line that a byte of the file lies in.
+fn line_at(file: &[u8], place: usize) -> Option<Line<'_>> {
+    lines(file).find(|line| place < line.start + line.bytes.len())
+}
+
+/// The line that holds a row of an accepted file. No statement goes over the end of a line, so each line is a file of its own, whose rows can be counted.
+fn line_of_row(file: &[u8], first: u32, row: u64) -> Option<Line<'_>> {
+    let mut rows = 0;
+    lines(file).find(|line| {
+        rows += opb::count(line.bytes, first).map_or(0, |size| size.rows as u64);
+        row < rows
+    })
+}
+
+/// One column for each byte, so that a mark below stands at its place.
+fn shown(byte: u8) -> char {
+    match byte {
+        b' '..=b'~' => byte as char,
+        b'\t' => ' ',
+        _ => '?',
+    }
+}
+
+/// The line with its number, cut to the part near a place in it, and how far from the left edge that place is then.
+fn excerpt(line: &Line, at: usize) -> (String, usize) {
+    let ending = line.bytes.iter().rev().take_while(|byte| matches!(**byte, b'\n' | b'\r')).count();
+    let text = &line.bytes[..line.bytes.len() - ending];
+    let from = at.saturating_sub(BEFORE).min(text.len());
+    let to = (from + SHOWN).min(text.len());
+    let cut = if from > 0 { "..." } else { "" };
+    let more = if to < text.len() { "..." } else { "" };
+    let part: String = text[from..to].iter().copied().map(shown).collect();
+    let number = format!("  {} | {}", line.number, cut);
+    let left = number.len() + at - from;
+    (format!("{}{}{}", number, part, more), left)
+}
+
+/// What cannot be had is memory: the command lends as much room as is needed.
+fn no_memory(name: &str, refusal: &Refusal) -> Option<String> {
+    let what = match refusal.reason {
+        Reason::Rows => "rows",
+        Reason::Terms => "terms",
+        Reason::Output => "bytes of output",
+        _ => return None,
+    };
+    Some(format!("{}: there is not enough memory for {} {}\n", name, refusal.place, what))
+}
+
+fn message(name: &str, refusal: &Refusal, place: &str, text: &str) -> String {
+    let reason = refusal.reason;
+    format!("{}: refused ({}){}: {}\n{}  what to do: {}\n", name, reason.number(), place, reason.meaning(), text, reason.advice())
+}
+
+/// Of a file that was refused: the place is a byte of it.
+pub fn of_file(input: &Input, refusal: &Refusal) -> String {
+    if let Some(text) = no_memory(&input.name, refusal) {
+        return text;
+    }
+    let place = refusal.place as usize;
+    match line_at(&input.bytes, place) {
+        Some(line) if refusal.reason != Reason::FileLength => {
+            let at = place - line.start;
+            let (text, left) = excerpt(&line, at);
+            let place = format!(" at line {}, column {}", line.number, at + 1);
+            message(&input.name, refusal, &place, &format!("{}\n{}^\n", text.trim_end(), " ".repeat(left)))
+        }
+        _ => message(&input.name, refusal, "", ""),
+    }
+}
+
+/// Of a row of an accepted file that cannot be rewritten.
+pub fn of_row(input: &Input, first: u32, refusal: &Refusal) -> String {
+    if let Some(text) = no_memory(&input.name, refusal) {
+        return text;
+    }
+    match line_of_row(&input.bytes, first, refusal.place) {
+        Some(line) => {
+            let place = format!(" at line {} (row {}, counted from 0)", line.number, refusal.place);
+            message(&input.name, refusal, &place, &format!("{}\n", excerpt(&line, 0).0))
+        }
+        None => message(&input.name, refusal, &format!(" at row {} (counted from 0)", refusal.place), ""),
+    }
+}

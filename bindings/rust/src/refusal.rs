@@ -1,0 +1,122 @@
+//! Refusals: a number and a place, with words for a person.
+use std::error::Error;
+use std::fmt;
+
+/// Why a call was refused. The numbers are those of `include/opb.h`.
+#[derive(Clone, Copy, Debug, PartialEq, Eq)]
+#[non_exhaustive]
+pub enum Reason {
+    FileLength = 1,
+    Statement = 2,
+    Number = 3,
+    Literal = 4,
+    Variable = 5,
+    Operator = 6,
+    Ending = 7,
+    Overflow = 8,
+    Rows = 9,
+    Terms = 10,
+    Row = 11,
+    Assignment = 12,
+    Empty = 13,
+    Output = 14,
+    Comment = 15,
+}
+
+const ALL: [Reason; 15] = [
+    Reason::FileLength,
+    Reason::Statement,
+    Reason::Number,
+    Reason::Literal,
+    Reason::Variable,
+    Reason::Operator,
+    Reason::Ending,
+    Reason::Overflow,
+    Reason::Rows,
+    Reason::Terms,
+    Reason::Row,
+    Reason::Assignment,
+    Reason::Empty,
+    Reason::Output,
+    Reason::Comment,
+];
+
+impl Reason {
+    pub fn number(self) -> u8 {
+        self as u8
+    }
+
+    /// The reason with this number.
+    pub fn of(number: u8) -> Option<Reason> {
+        ALL.into_iter().find(|reason| reason.number() == number)
+    }
+
+    /// What the number means.
+    pub fn meaning(self) -> &'static str {
+        match self {
+            Reason::FileLength => "the file is longer than 1,073,741,823 bytes",
+            Reason::Statement => "no statement begins here (a blank line is none)",
+            Reason::Number => "a number of this statement is missing, is a sign alone, or is beyond 64 bits",
+            Reason::Literal => "a weight of this statement has no blank behind it, or no variable there",
+            Reason::Variable => "a variable's number is below the first index, or too large",
+            Reason::Operator => "no operator stands behind the sum of this statement",
+            Reason::Ending => "this statement does not end where it should",
+            Reason::Overflow => "the weights add up to more than 9,223,372,036,854,775,807, or a bound or value is beyond 64 bits",
+            Reason::Rows => "the table has no room for the rows",
+            Reason::Terms => "the table has no room for the terms",
+            Reason::Row => "no table may hold this row (an unknown kind, terms outside their column, an index above its limit; in writing a negative weight or a comment outside its text)",
+            Reason::Assignment => "a variable lies beyond the assignment",
+            Reason::Empty => "a constraint without terms cannot be written",
+            Reason::Output => "the output has no room for the text",
+            Reason::Comment => "a comment with a line feed cannot be written",
+        }
+    }
+
+    /// What a planner can do about it.
+    pub fn advice(self) -> &'static str {
+        match self {
+            Reason::FileLength => "split the plan into several files",
+            Reason::Statement => "remove a blank line, or begin with `*`, `min:`, a digit, `+` or `-`",
+            Reason::Number => "write each number with digits, such as `3 x1 >= -2;`, up to 9223372036854775807",
+            Reason::Literal => "write `3 x1` or `3 ~x1`, not `3x1` or `3 1`",
+            Reason::Variable => "compare the variables' numbers with the first index; the greatest is the first index and 1,073,741,823 more, and never above 4,294,967,295",
+            Reason::Operator => "write `>=`, `<=`, `=`, `>` or `<` behind the last term",
+            Reason::Ending => "end it with `;` or a new line, with nothing else between",
+            Reason::Overflow => "use smaller units",
+            Reason::Rows => "lend columns with so many entries for rows",
+            Reason::Terms => "lend columns with so many entries for terms",
+            Reason::Row => "mend the row; normalise a table before writing it where weights are negative",
+            Reason::Assignment => "lend more words",
+            Reason::Empty => "leave the row out, or give it terms",
+            Reason::Output => "lend an output of so many bytes",
+            Reason::Comment => "write two comments",
+        }
+    }
+}
+
+/// A refused call. The place is, by reason and call, the offset of a statement in the file, a row, or the count or length needed.
+#[derive(Clone, Copy, Debug, PartialEq, Eq)]
+pub struct Refusal {
+    pub reason: Reason,
+    pub place: u64,
+}
+
+impl Refusal {
+    /// What `place` is. Of 5 and 8 only the call tells: a byte in reading, a row over a table.
+    fn place_word(&self) -> &'static str {
+        match self.reason {
+            Reason::Variable | Reason::Overflow => "at byte or row",
+            Reason::Row | Reason::Assignment | Reason::Empty | Reason::Comment => "at row",
+            Reason::Rows | Reason::Terms | Reason::Output => "needing",
+            _ => "at byte",
+        }
+    }
+}
+
+impl fmt::Display for Refusal {
+    fn fmt(&self, f: &mut fmt::Formatter) -> fmt::Result {
+        write!(f, "refused ({}) {} {}: {}; {}", self.reason.number(), self.place_word(), self.place, self.reason.meaning(), self.reason.advice())
+    }
+}
+
+impl Error for Refusal {}

@@ -1,0 +1,172 @@
+//! Tables as six vectors, and the calls over them with room made to measure.
+use crate::ffi;
+use crate::refusal::{Reason, Refusal};
+
+/// The numbers in the column of kinds. Reading makes the first five; only writing knows the others.
+pub mod kind {
+    pub const COMMENT: u8 = 0;
+    pub const AT_LEAST: u8 = 1;
+    pub const AT_MOST: u8 = 2;
+    pub const EQUAL: u8 = 3;
+    pub const OBJECTIVE: u8 = 4;
+    pub const CLAUSE: u8 = 5;
+    pub const CARDINALITY_AT_LEAST: u8 = 6;
+    pub const CARDINALITY_AT_MOST: u8 = 7;
+    pub const CARDINALITY_EQUAL: u8 = 8;
+}
+
+/// Rows and terms of a table.
+#[derive(Clone, Copy, Debug, PartialEq, Eq)]
+pub struct Size {
+    pub rows: usize,
+    pub terms: usize,
+}
+
+/// What a row says of an assignment, with the number of ones in the assignment's words.
+#[derive(Clone, Copy, Debug, PartialEq, Eq)]
+pub enum Value {
+    Constraint { sum: i64, holds: bool, ones: u64 },
+    Objective { value: i64, ones: u64 },
+}
+
+/// How negated literals are written: as `~x1`, or by a weight of the other sign on the plain variable.
+#[derive(Clone, Copy, Debug, PartialEq, Eq)]
+pub enum Literals {
+    Negated,
+    Plain,
+}
+
+/// Six columns: four with an entry for each row, two with an entry for each term. A literal is twice the variable index, plus 1 if negated; the index is the number in the file less the first
+/// index. A comment row's first and count are the offset and length of its text.
+#[derive(Clone, Debug, Default, PartialEq, Eq)]
+pub struct Table {
+    pub kinds: Vec<u8>,
+    pub firsts: Vec<usize>,
+    pub counts: Vec<usize>,
+    pub bounds: Vec<i64>,
+    pub weights: Vec<i64>,
+    pub literals: Vec<u32>,
+}
+
+/// So many zeros, or `refusal` where there is no memory for them.
+fn zeros<T: Clone + Default>(count: usize, refusal: Refusal) -> Result<Vec<T>, Refusal> {
+    let mut zeros = Vec::new();
+    zeros.try_reserve_exact(count).map_err(|_| refusal)?;
+    zeros.resize(count, T::default());
+    Ok(zeros)
+}
+
+/// The text that `put` puts into an output: measured by an empty one, which it refuses with the length needed, then put into one of that length.
+fn measured(put: impl Fn(&mut [u8]) -> Result<usize, Refusal>) -> Result<Vec<u8>, Refusal> {
+    match put(&mut []) {
+        Ok(_) => Ok(Vec::new()),
+        Err(needed) if needed.reason == Reason::Output => {
+            let mut out = zeros(needed.place as usize, needed)?;
+            put(&mut out)?;
+            Ok(out)
+        }
+        Err(refusal) => Err(refusal),
+    }
+}
+
+/// The rows and terms that a file has. `first` is the first index.
+pub fn count(file: &[u8], first: u32) -> Result<Size, Refusal> {
+    ffi::count(file, first)
+}
+
+/// A file's rows: counted, then read into columns of just that size. Where there is no memory for them, the refusal is 9 or 10.
+pub fn read(file: &[u8], first: u32) -> Result<Table, Refusal> {
+    let mut table = Table::of_size(count(file, first)?)?;
+    table.read_into(file, first)?;
+    Ok(table)
+}
+
+impl Table {
+    /// A table of zeros, or 9 or 10 where there is no memory for it.
+    pub fn of_size(size: Size) -> Result<Table, Refusal> {
+        let rows = Refusal { reason: Reason::Rows, place: size.rows as u64 };
+        let terms = Refusal { reason: Reason::Terms, place: size.terms as u64 };
+        Ok(Table {
+            kinds: zeros(size.rows, rows)?,
+            firsts: zeros(size.rows, rows)?,
+            counts: zeros(size.rows, rows)?,
+            bounds: zeros(size.rows, rows)?,
+            weights: zeros(size.terms, terms)?,
+            literals: zeros(size.terms, terms)?,
+        })
+    }
+
+    /// The room of the shortest columns.
+    pub fn size(&self) -> Size {
+        Size { rows: self.kinds.len().min(self.firsts.len()).min(self.counts.len()).min(self.bounds.len()), terms: self.weights.len().min(self.literals.len()) }
+    }
+
+    /// One row more, of these terms: weight and literal.
+    pub fn push(&mut self, kind: u8, bound: i64, terms: &[(i64, u32)]) {
+        self.kinds.push(kind);
+        self.firsts.push(self.weights.len());
+        self.counts.push(terms.len());
+        self.bounds.push(bound);
+        self.weights.extend(terms.iter().map(|term| term.0));
+        self.literals.extend(terms.iter().map(|term| term.1));
+    }
+
+    /// A file into the columns as they are; entries behind the size answered stay.
+    pub fn read_into(&mut self, file: &[u8], first: u32) -> Result<Size, Refusal> {
+        ffi::read(file, first, self)
+    }
+
+    /// The same rows without negative weights.
+    pub fn normal(&self) -> Result<Table, Refusal> {
+        let mut normal = Table::of_size(self.size())?;
+        match self.normal_into(&mut normal) {
+            Ok(size) => normal.truncate(size),
+            // rows that share terms
+            Err(needed) if needed.reason == Reason::Terms => {
+                normal = Table::of_size(Size { rows: self.size().rows, terms: needed.place as usize })?;
+                self.normal_into(&mut normal)?;
+            }
+            Err(refusal) => return Err(refusal),
+        }
+        Ok(normal)
+    }
+
+    /// The same into the columns of another table; entries behind the size answered stay.
+    pub fn normal_into(&self, normal: &mut Table) -> Result<Size, Refusal> {
+        ffi::normalise(self, normal)
+    }
+
+    /// One row under an assignment: variable index v is bit v mod 64 of word v / 64.
+    pub fn evaluate(&self, row: usize, words: &[u64]) -> Result<Value, Refusal> {
+        ffi::evaluate(self, row, words)
+    }
+
+    /// The rows as lines of an OPB file. Comment rows point into `text`: for rows that were read, the file.
+    pub fn write(&self, text: &[u8], first: u32, literals: Literals) -> Result<Vec<u8>, Refusal> {
+        measured(|out| self.write_into(text, first, literals, out))
+    }
+
+    /// The same into an output; answers the length.
+    pub fn write_into(&self, text: &[u8], first: u32, literals: Literals, out: &mut [u8]) -> Result<usize, Refusal> {
+        ffi::write(self, text, first, literals == Literals::Plain, out)
+    }
+
+    /// The rows as the lines of the listing, parted by tabs.
+    pub fn list(&self, first: u32) -> Result<Vec<u8>, Refusal> {
+        measured(|out| self.list_into(first, out))
+    }
+
+    /// The same into an output; answers the length.
+    pub fn list_into(&self, first: u32, out: &mut [u8]) -> Result<usize, Refusal> {
+        ffi::list(self, self.size().rows, first, out)
+    }
+
+    fn truncate(&mut self, size: Size) {
+        self.kinds.truncate(size.rows);
+        self.firsts.truncate(size.rows);
+        self.counts.truncate(size.rows);
+        self.bounds.truncate(size.rows);
+        self.weights.truncate(size.terms);
+        self.literals.truncate(size.terms);
+    }
+}

@@ -1,0 +1,203 @@
+//! Each call of the library: what it answers, each refusal with its place, and that a refused call changes nothing.
+use opb::{count, kind, read, Literals, Reason, Refusal, Size, Table, Value};
+
+const PLAN: &[u8] = b"* budget\n3 x1 -2 ~x2 >= 1;\nmin: 4 x3;\n1 x1 < 1\n";
+
+fn refusal<T>(reason: Reason, place: u64) -> Result<T, Refusal> {
+    Err(Refusal { reason, place })
+}
+
+/// A table of so many entries that no call would make.
+fn marked(rows: usize, terms: usize) -> Table {
+    Table { kinds: vec![170; rows], firsts: vec![170; rows], counts: vec![170; rows], bounds: vec![170; rows], weights: vec![170; terms], literals: vec![170; terms] }
+}
+
+fn one_row(kind: u8, bound: i64, terms: &[(i64, u32)]) -> Table {
+    let mut table = Table::default();
+    table.push(kind, bound, terms);
+    table
+}
+
+#[test]
+fn a_file_is_read_into_columns_of_its_size() {
+    let table = read(PLAN, 1).unwrap();
+    assert_eq!(count(PLAN, 1), Ok(Size { rows: 4, terms: 4 }));
+    assert_eq!(table.kinds, [kind::COMMENT, kind::AT_LEAST, kind::OBJECTIVE, kind::AT_MOST]);
+    assert_eq!(table.firsts, [2, 0, 2, 3]);
+    assert_eq!(table.counts, [6, 2, 1, 1]);
+    assert_eq!(table.bounds, [0, 1, 0, 0]);
+    assert_eq!(table.weights, [3, -2, 4, 1]);
+    assert_eq!(table.literals, [0, 3, 4, 0]);
+    assert_eq!(read(b"", 1), Ok(Table::default()));
+}
+
+#[test]
+fn each_refusal_of_reading_has_its_place() {
+    let files: [(&[u8], Reason, u64); 11] = [
+        (b">= 1;", Reason::Statement, 0),
+        (b"1 x1 >= 1;\n\n1 x2 >= 1;", Reason::Statement, 11),
+        (b"1 x1 >= 1;\r\n\r\n", Reason::Statement, 12),
+        (b"* a\n1 x1 >= ;", Reason::Number, 4),
+        (b"1x1 >= 1;", Reason::Literal, 0),
+        (b"1 x1 >= 1; 1 x0 >= 1;", Reason::Variable, 11),
+        (b"\t1 x1073741825 >= 1;", Reason::Variable, 1),
+        (b"1 x1;", Reason::Operator, 0),
+        (b"1 x1 >= 1 2", Reason::Ending, 0),
+        (b"1 x1 < -9223372036854775808;", Reason::Overflow, 0),
+        (b"9223372036854775807 x1 1 x2 >= 0;", Reason::Overflow, 0),
+    ];
+    for (file, reason, place) in files {
+        let mut table = marked(4, 4);
+        assert_eq!(count(file, 1), refusal(reason, place));
+        assert_eq!(read(file, 1), refusal(reason, place));
+        assert_eq!(table.read_into(file, 1), refusal(reason, place));
+        assert_eq!(table, marked(4, 4));
+    }
+}
+
+#[test]
+fn the_first_index_is_an_option() {
+    assert_eq!(read(b"1 x0 >= 1;", 0).unwrap().literals, [0]);
+    assert_eq!(read(b"1 ~x9 >= 1;", 7).unwrap().literals, [5]);
+    assert_eq!(read(b"1 x1073741824 >= 1;", 1).unwrap().literals, [2_147_483_646]);
+}
+
+#[test]
+fn reading_changes_only_what_it_counts() {
+    let mut table = marked(6, 6);
+    assert_eq!(table.read_into(PLAN, 1), Ok(Size { rows: 4, terms: 4 }));
+    assert_eq!((&table.kinds[4..], &table.literals[4..]), (&[170, 170][..], &[170, 170][..]));
+    let mut table = marked(3, 4);
+    assert_eq!(table.read_into(PLAN, 1), refusal(Reason::Rows, 4));
+    assert_eq!(table, marked(3, 4));
+    let mut table = marked(4, 3);
+    assert_eq!(table.read_into(PLAN, 1), refusal(Reason::Terms, 4));
+    assert_eq!(table, marked(4, 3));
+}
+
+#[test]
+fn normal_rows_have_no_negative_weight() {
+    let normal = read(b"3 x1 -2 x2 >= -1;\n* a\nmin: -4 x1;", 1).unwrap().normal().unwrap();
+    assert_eq!(normal.weights, [3, 2, 4]);
+    assert_eq!(normal.literals, [0, 3, 1]);
+    assert_eq!(normal.bounds, [1, 0, -4]);
+    assert_eq!(normal.firsts, [0, 20, 2]);
+}
+
+#[test]
+fn normal_tables_have_the_room_they_need() {
+    let mut shared = one_row(kind::AT_LEAST, 1, &[(-1, 0), (2, 2)]);
+    shared.push(kind::AT_MOST, 1, &[]);
+    shared.firsts[1] = 0;
+    shared.counts[1] = 2;
+    assert_eq!(shared.normal().unwrap().weights, [1, 2, 1, 2]);
+    let mut unused = one_row(kind::AT_LEAST, 1, &[(-1, 0), (2, 2)]);
+    unused.counts[0] = 1;
+    assert_eq!(unused.normal().unwrap().weights, [1]);
+}
+
+#[test]
+fn each_refusal_of_normalising_has_its_place() {
+    let cases = [(one_row(kind::CLAUSE, 1, &[(1, 0)]), Reason::Row), (one_row(kind::AT_LEAST, 1, &[(1, u32::MAX)]), Reason::Row), (one_row(kind::AT_LEAST, i64::MAX, &[(-1, 0)]), Reason::Overflow)];
+    for (table, reason) in cases {
+        let mut normal = marked(1, 1);
+        assert_eq!(table.normal(), refusal(reason, 0));
+        assert_eq!(table.normal_into(&mut normal), refusal(reason, 0));
+        assert_eq!(normal, marked(1, 1));
+    }
+    let table = one_row(kind::AT_LEAST, 0, &[(-1, 0)]);
+    assert_eq!(table.normal_into(&mut marked(0, 1)), refusal(Reason::Rows, 1));
+    assert_eq!(table.normal_into(&mut marked(1, 0)), refusal(Reason::Terms, 1));
+}
+
+#[test]
+fn a_row_is_evaluated() {
+    let table = read(PLAN, 1).unwrap();
+    assert_eq!(table.evaluate(1, &[5]), Ok(Value::Constraint { sum: 1, holds: true, ones: 2 }));
+    assert_eq!(table.evaluate(3, &[5]), Ok(Value::Constraint { sum: 1, holds: false, ones: 2 }));
+    assert_eq!(table.evaluate(2, &[5, u64::MAX]), Ok(Value::Objective { value: 4, ones: 66 }));
+    assert_eq!(table.evaluate(0, &[5]), refusal(Reason::Row, 0));
+    assert_eq!(table.evaluate(4, &[5]), refusal(Reason::Row, 4));
+    assert_eq!(table.evaluate(1, &[]), refusal(Reason::Assignment, 1));
+    assert_eq!(one_row(kind::OBJECTIVE, i64::MAX, &[(1, 0)]).evaluate(0, &[1]), refusal(Reason::Overflow, 0));
+}
+
+#[test]
+fn rows_are_written_in_both_modes() {
+    let file = b"* hall\n3 x1 2 x2 <= 4;\nmin: 4 ~x1 1 x3;\n1 x1 = 1;";
+    let table = read(file, 1).unwrap();
+    assert_eq!(table.write(file, 1, Literals::Negated).unwrap(), b"* hall\n3 ~x1 2 ~x2 >= 1;\nmin: 4 ~x1 1 x3;\n1 x1 = 1;\n");
+    assert_eq!(table.write(file, 1, Literals::Plain).unwrap(), b"* hall\n-3 x1 -2 x2 >= -4;\nmin: -4 x1 1 x3;\n* objective offset for previous objective: 4\n1 x1 = 1;\n");
+    let clause = one_row(kind::CLAUSE, 0, &[(0, 0), (0, 3)]);
+    assert_eq!(clause.write(b"", 1, Literals::Negated).unwrap(), b"1 x1 1 ~x2 >= 1;\n");
+    assert_eq!(clause.write(b"", 1, Literals::Plain).unwrap(), b"1 x1 -1 x2 >= 0;\n");
+    assert_eq!(one_row(kind::CARDINALITY_AT_MOST, 1, &[(0, 0), (0, 2)]).write(b"", 0, Literals::Negated).unwrap(), b"1 ~x0 1 ~x1 >= 1;\n");
+    assert_eq!(Table::default().write(b"", 1, Literals::Plain), Ok(Vec::new()));
+}
+
+#[test]
+fn what_is_normalised_and_written_means_the_same() {
+    let file = b"3 x1 -2 ~x2 >= 1;\n-1 x1 -4 x3 <= -2;\n2 ~x1 -1 x2 1 x3 = 1;\n-5 ~x2 3 x2 > -4;\nmin: -4 x1 2 ~x3;";
+    let table = read(file, 1).unwrap();
+    let normal = table.normal().unwrap();
+    for literals in [Literals::Negated, Literals::Plain] {
+        let again = read(&normal.write(file, 1, literals).unwrap(), 1).unwrap();
+        for words in (0..8).map(|word| [word]) {
+            assert!((0..4).all(|row| holds(&table, row, &words) == holds(&again, row, &words)), "{:?}", words);
+            assert_eq!(table.evaluate(4, &words), normal.evaluate(4, &words));
+        }
+    }
+}
+
+fn holds(table: &Table, row: usize, words: &[u64]) -> bool {
+    matches!(table.evaluate(row, words), Ok(Value::Constraint { holds: true, .. }))
+}
+
+#[test]
+fn each_refusal_of_writing_has_its_place() {
+    let cases = [
+        (one_row(kind::AT_LEAST, 0, &[(-1, 0)]), Reason::Row),
+        (one_row(kind::AT_LEAST, 0, &[]), Reason::Empty),
+        (one_row(kind::AT_LEAST, 0, &[(1, u32::MAX - 1)]), Reason::Row),
+        (one_row(kind::AT_MOST, i64::MIN, &[(1, 0)]), Reason::Overflow),
+        (Table { counts: vec![3], ..one_row(kind::COMMENT, 0, &[]) }, Reason::Comment),
+        (Table { counts: vec![4], ..one_row(kind::COMMENT, 0, &[]) }, Reason::Row),
+    ];
+    for (table, reason) in cases {
+        let mut out = [170; 64];
+        assert_eq!(table.write(b"a\nb", 1, Literals::Negated), refusal(reason, 0));
+        assert_eq!(table.write_into(b"a\nb", 1, Literals::Negated, &mut out), refusal(reason, 0));
+        assert_eq!(out, [170; 64]);
+    }
+    let table = one_row(kind::AT_LEAST, 0, &[(1, 2)]);
+    assert_eq!(table.write(b"", u32::MAX, Literals::Negated), refusal(Reason::Variable, 0));
+    assert_eq!(table.write_into(b"", 1, Literals::Negated, &mut [0; 10]), refusal(Reason::Output, 11));
+    assert_eq!(table.write_into(b"", 1, Literals::Negated, &mut [0; 12]), Ok(11));
+}
+
+#[test]
+fn rows_are_listed() {
+    let table = read(PLAN, 1).unwrap();
+    let lines = b"opb\t4\t4\t1\nc\t6\nge\t1\t3\tx1\t-2\t~x2\nmin\t0\t4\tx3\nle\t0\t1\tx1\n";
+    assert_eq!(table.list(1).unwrap(), lines);
+    assert_eq!(table.list_into(1, &mut [0; 9]), refusal(Reason::Output, lines.len() as u64));
+    assert_eq!(one_row(kind::CLAUSE, 1, &[]).list(1), refusal(Reason::Row, 0));
+}
+
+#[test]
+fn no_memory_is_a_refusal() {
+    assert_eq!(Table::of_size(Size { rows: usize::MAX, terms: 0 }), refusal(Reason::Rows, u64::MAX));
+    assert_eq!(Table::of_size(Size { rows: 0, terms: usize::MAX }), refusal(Reason::Terms, u64::MAX));
+}
+
+#[test]
+fn refusals_say_number_place_meaning_and_what_to_do() {
+    let blank_line = Refusal { reason: Reason::Statement, place: 11 };
+    assert_eq!(blank_line.to_string(), "refused (2) at byte 11: no statement begins here (a blank line is none); remove a blank line, or begin with `*`, `min:`, a digit, `+` or `-`");
+    for number in 1..=15 {
+        let reason = Reason::of(number).unwrap();
+        assert_eq!(reason.number(), number);
+        assert!(Refusal { reason, place: 7 }.to_string().starts_with(&format!("refused ({}) ", number)));
+    }
+    assert_eq!((Reason::of(0), Reason::of(16)), (None, None));
+}

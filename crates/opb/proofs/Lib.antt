@@ -1,0 +1,4 @@
+pub mod Told
+pub mod OneAnswer
+pub mod Refusals
+pub mod ZeroAccepts

@@ -1,0 +1,75 @@
+-- What a callee answered is what the call answers: for each call, whichever case of the callee's answer it was.
+use Prim.Native.Nat.{ℕ, _≤_, _<_}
+use mathlib.Core.Path.{_≡_, refl, sym, ap, _∙_}
+use mathlib.Core.List.{List}
+use borrow.Author.Tests.{le-leb, lt-leb}
+use lib.ListN.{length}
+use Rattle.definitions.specs.Limits.{fileLimit}
+use Rattle.definitions.specs.Refusal.{refusal}
+use Rattle.definitions.specs.Walk.{Walked, broken, items}
+use Rattle.definitions.specs.Row.{Line}
+use Rattle.definitions.specs.Table.{Table, Outcome, refused, accepted, counted}
+use Rattle.definitions.specs.File.{linesOf, statements, file}
+use Rattle.definitions.specs.Write.{writing}
+use Rattle.definitions.specs.House.{listingTable}
+use Rattle.reader.specs.Brief.{totals}
+use Rattle.reader.specs.Said.{saidCounted, saidAnswer}
+use Rattle.reader.specs.Reads.{Reads}
+use Rattle.reader.specs.declared.count.Counted.{Counted}
+use Rattle.reader.specs.declared.file.Answer as reader
+use Rattle.normaliser.specs.Said as normal
+use Rattle.normaliser.specs.Normalises.{Normalises}
+use Rattle.normaliser.specs.declared.Answer as normaliser
+use Rattle.writer.specs.Writes.{Writes, saidWritten, lengthOf}
+use Rattle.writer.specs.declared.Written.{Written}
+use Rattle.house.specs.Said.{saidListed, textLength}
+use Rattle.house.specs.Lists.{Lists}
+use Rattle.house.specs.declared.Listed.{Listed}
+use Rattle.opb.specs.Answers.{tableAnswer, lengthAnswer, textAnswer}
+use Rattle.opb.specs.Calls.{firstAt, modeAt, countAnswer, ReadsFile, NormalisesTable, WritesLines, ListsTable}
+use Rattle.opb.specs.declared.answers.OpbTable.{OpbTable}
+use Rattle.opb.specs.declared.answers.OpbText.{OpbText}
+
+-- ---- counting: 1, or what the walk over the statements found
+
+totals-counted : (w : Walked Line) → totals w ≡ counted (linesOf w)
+totals-counted (broken r) = refl
+totals-counted (items ls n) = refl
+
+module _ (first : ℕ) (s : List ℕ) (r : OpbTable) where
+  pub count-long : fileLimit < length s → r ≡ tableAnswer (refused (refusal 1 0)) → r ≡ countAnswer first s
+  unfolding file
+  count-long h e = rw (lt-leb (length s) fileLimit h) e
+
+  pub count-told : length s ≤ fileLimit → (a b : Counted) → saidCounted a ≡ totals (statements (firstAt first) s) → a ≡ b → r ≡ tableAnswer (saidCounted b) → r ≡ countAnswer first s
+  unfolding file
+  count-told h a b c q e =
+      rw (le-leb (length s) fileLimit h) (e ∙ ap tableAnswer (sym (ap saidCounted q) ∙ c ∙ totals-counted (statements (firstAt first) s)))
+
+-- ---- reading, normalising
+
+pub read-told : (first : ℕ) (s : List ℕ) (t t′ : Table) (r : OpbTable) (a b : reader.Answer) → Reads (firstAt first) s t a t′ → a ≡ b → r ≡ tableAnswer (saidAnswer b) → ReadsFile first s t r t′
+read-told first s t t′ r a b reads q e = record { answer = e ∙ ap tableAnswer (sym (ap saidAnswer q) ∙ reads .answer); after = reads .after }
+
+pub normal-told : (t o o′ : Table) (r : OpbTable) (a b : normaliser.Answer) → Normalises t o a o′ → a ≡ b → r ≡ tableAnswer (normal.saidAnswer b) → NormalisesTable t o r o′
+normal-told t o o′ r a b normalises q e =
+    record { answer = e ∙ ap tableAnswer (sym (ap normal.saidAnswer q) ∙ normalises .answer); after = normalises .after }
+
+-- ---- writing, listing
+
+length-told : (x : Outcome (List ℕ)) → lengthAnswer (lengthOf x) ≡ textAnswer x
+length-told (refused r) = refl
+length-told (accepted s) = refl
+
+listed-told : (x : Outcome (List ℕ)) → lengthAnswer (textLength x) ≡ textAnswer x
+listed-told (refused r) = refl
+listed-told (accepted s) = refl
+
+pub write-told : (first plain : ℕ) (t : Table) (text o o′ : List ℕ) (r : OpbText) (a b : Written) → Writes (modeAt first plain) t text o a o′ → a ≡ b → r ≡ lengthAnswer (saidWritten b)
+    → WritesLines first plain t text o r o′
+write-told first plain t text o o′ r a b writes q e =
+    record { answer = e ∙ ap lengthAnswer (sym (ap saidWritten q) ∙ writes .answer) ∙ length-told (writing (modeAt first plain) t text (length o)); after = writes .after }
+
+pub list-told : (first rows : ℕ) (t : Table) (o o′ : List ℕ) (r : OpbText) (a b : Listed) → Lists first rows t o a o′ → a ≡ b → r ≡ lengthAnswer (saidListed b) → ListsTable first rows t o r o′
+list-told first rows t o o′ r a b lists q e =
+    record { answer = e ∙ ap lengthAnswer (sym (ap saidListed q) ∙ lists .answer) ∙ listed-told (listingTable first rows t (length o)); after = lists .after }

@@ -1,0 +1,59 @@
+-- What each call promises: one answer, and one later content of what it was lent to change. The definitions are those of the crates called.
+use Prim.Native.Nat.{ℕ}
+use mathlib.Core.Path.{_≡_}
+use mathlib.Core.Bool.{not}
+use mathlib.Core.List.{List}
+use lib.Dec.{eqb}
+use lib.ListN.{length}
+use Rattle.definitions.specs.Table.{Table, counted, after}
+use Rattle.definitions.specs.File.{file, reading}
+use Rattle.definitions.specs.Normal.{normalising}
+use Rattle.definitions.specs.Evaluate.{evaluating}
+use Rattle.definitions.specs.Write.{writing, outputAfter}
+use Rattle.definitions.specs.House.{listingTable}
+use Rattle.definitions.specs.declared.Options.{Options}
+use Rattle.definitions.specs.declared.Mode.{Mode}
+use Rattle.opb.specs.Answers.{tableAnswer, textAnswer, valueAnswer}
+use Rattle.opb.specs.declared.answers.OpbTable.{OpbTable}
+use Rattle.opb.specs.declared.answers.OpbText.{OpbText}
+use Rattle.opb.specs.declared.answers.OpbValue.{OpbValue}
+
+-- ---- options and modes as C lends them
+
+-- "the first index (an option, any u32)"
+abbrev pub firstAt : ℕ → Options
+firstAt first = record { first = first }
+
+-- "In no-negated mode": any number but 0
+abbrev pub modeAt : ℕ → ℕ → Mode
+modeAt first plain = record { first = first; plain = not (eqb plain 0) }
+
+-- ---- the calls
+
+-- the rows and terms of the file s, whatever room there is
+abbrev pub countAnswer : ℕ → List ℕ → OpbTable
+countAnswer first s = tableAnswer (counted (file (firstAt first) s))
+
+-- the file s into the table t, which is t′ after the call
+pub record ReadsFile (first : ℕ) (s : List ℕ) (t : Table) (r : OpbTable) (t′ : Table) : Type 0 where
+  pub answer : r ≡ tableAnswer (counted (reading (firstAt first) s t))
+  pub after : t′ ≡ after (reading (firstAt first) s t) t
+
+-- the rows of the table t, normal, into the table o, which is o′ after the call
+pub record NormalisesTable (t o : Table) (r : OpbTable) (o′ : Table) : Type 0 where
+  pub answer : r ≡ tableAnswer (counted (normalising t o))
+  pub after : o′ ≡ after (normalising t o) o
+
+-- a row of the table t under the assignment that the words are
+abbrev pub evaluateAnswer : Table → ℕ → List ℕ → OpbValue
+evaluateAnswer t row words = valueAnswer (evaluating t row words)
+
+-- the rows of the table t, with the comments' text, as the lines of a file into the output o, which is o′ after the call
+pub record WritesLines (first plain : ℕ) (t : Table) (text o : List ℕ) (r : OpbText) (o′ : List ℕ) : Type 0 where
+  pub answer : r ≡ textAnswer (writing (modeAt first plain) t text (length o))
+  pub after : o′ ≡ outputAfter (writing (modeAt first plain) t text (length o)) o
+
+-- the first rows of the table t as house lines into the output o, which is o′ after the call
+pub record ListsTable (first rows : ℕ) (t : Table) (o : List ℕ) (r : OpbText) (o′ : List ℕ) : Type 0 where
+  pub answer : r ≡ textAnswer (listingTable first rows t (length o))
+  pub after : o′ ≡ outputAfter (listingTable first rows t (length o)) o

@@ -1,0 +1,223 @@
+/* opb.h: read, normalise, evaluate, write and list OPB files (linear pseudo-Boolean constraints), over columns that the caller lends. Link with libopb.a (x86-64 Linux).
+ *
+ * An example, which the tests compile and run: a file is read and written again with plain variables only.
+ *
+ *     #include <stdio.h>
+ *     #include <string.h>
+ *     #include "opb.h"
+ *
+ *     int main(void) {
+ *         const char *plan = "3 x1 2 x2 <= 4;\nmin: 4 ~x1 1 x3;\n";
+ *         const uint8_t *file = (const uint8_t *)plan;
+ *         size_t length = strlen(plan);
+ *         uint8_t kinds[8], out[256];
+ *         size_t firsts[8], counts[8];
+ *         int64_t bounds[8], weights[16];
+ *         uint32_t literals[16];
+ *         opb_table t = opb_read(file, length, 1, kinds, 8, firsts, 8, counts, 8, bounds, 8, weights, 16, literals, 16);
+ *         if (t.refusal != OPB_ACCEPTED) {
+ *             printf("not read: refusal %d, place %llu\n", t.refusal, (unsigned long long)t.place);
+ *             return 1;
+ *         }
+ *         opb_text w = opb_write(kinds, t.rows, firsts, t.rows, counts, t.rows, bounds, t.rows, weights, t.terms, literals, t.terms, file, length, 1, 1, out, 256);
+ *         if (w.refusal != OPB_ACCEPTED) {
+ *             printf("not written: refusal %d, place %llu\n", w.refusal, (unsigned long long)w.place);
+ *             return 1;
+ *         }
+ *         fwrite(out, 1, w.length, stdout);
+ *         return 0;
+ *     }
+ *
+ * It prints
+ *
+ *   -3 x1 -2 x2 >= -4;
+ *   min: -4 x1 1 x3;
+ *   * objective offset for previous objective: 4
+ *
+ * What the caller owes: each pointer is aligned for its type and valid for as many elements as the length behind it says (NULL with length 0 is fine), and what a call may change (a pointer
+ * without `const`) overlaps nothing else lent to the same call. Nothing else is asked: every content of what is lent has an answer. What a call may change may hold anything before.
+ *
+ * What the caller gets: one answer for each input. A refused call changes nothing that it was lent; an accepted one changes only the entries that it counts, from the front. No call keeps a
+ * pointer, has a state, allocates, or prints; calls from several threads need no lock.
+ */
+#ifndef OPB_H
+#define OPB_H
+
+#include <stddef.h>
+#include <stdint.h>
+
+#ifdef __cplusplus
+extern "C" {
+#endif
+
+/* ---- Tables: six columns, four with an entry for each row, two with an entry for each term.
+ *
+ * Rows and terms count from 0. A row has a kind, its first term (the count of terms before it), its count of terms, and its bound; an objective's bound column is its offset, 0 where it was
+ * read. A comment row's first and count are the offset and length of its text, in the file that was read or the text lent to opb_write; its bound is 0 where it was read. Terms keep order,
+ * sign and zero weights; a repeated variable counts each time.
+ *
+ * A literal code is twice the variable index, plus 1 if negated; a variable index is the number in the file (x7: 7) less the first index, which is an option of each call.
+ *
+ * Columns of unequal length have the room of the shortest. A call over a table takes every row lent, so lend the lengths that were answered, not the room that there was. */
+
+/* Kinds. Reading makes 0 to 4; normalising, evaluating and listing know these; writing knows all. */
+#define OPB_COMMENT 0
+#define OPB_AT_LEAST 1
+#define OPB_AT_MOST 2
+#define OPB_EQUAL 3
+#define OPB_OBJECTIVE 4
+/* Every weight and the bound are taken as 1, their columns are not looked at. */
+#define OPB_CLAUSE 5
+/* Every weight is taken as 1, the weight column is not looked at. */
+#define OPB_CARDINALITY_AT_LEAST 6
+#define OPB_CARDINALITY_AT_MOST 7
+#define OPB_CARDINALITY_EQUAL 8
+
+/* The greatest length of a file, in bytes. */
+#define OPB_FILE_LIMIT 1073741823
+/* The greatest variable index. */
+#define OPB_INDEX_LIMIT 1073741823
+/* The greatest number behind an `x` in a file. */
+#define OPB_FILE_NUMBER_LIMIT 4294967295
+/* The greatest sum of absolute weights in a row. */
+#define OPB_WEIGHT_LIMIT 9223372036854775807
+/* Words of an assignment behind so many are not looked at. */
+#define OPB_WORD_LIMIT 16777216
+
+/* ---- Refusals: the number, when it is given, and the place that comes with it.
+ *
+ * S is the offset in the file of the first byte, after blanks, of the statement at fault. A needed number above 18,446,744,073,709,551,615 is given as that one. */
+
+/* The call did what it promises; the place is 0. */
+#define OPB_ACCEPTED 0
+/* File above the limit. Place 0. */
+#define OPB_REFUSED_FILE_LENGTH 1
+/* A statement starts with none of its beginnings (`*`, `min:`, a digit, `+`, `-`), a blank line included. Place S. */
+#define OPB_REFUSED_STATEMENT 2
+/* Number missing, sign alone, or beyond 64 bits. Place S. */
+#define OPB_REFUSED_NUMBER 3
+/* No blank after a weight, or no literal there. Place S. */
+#define OPB_REFUSED_LITERAL 4
+/* File number beyond u32, below the first index, or index above its limit. Place S; in writing, the row. */
+#define OPB_REFUSED_VARIABLE 5
+/* No operator after a sum. Place S. */
+#define OPB_REFUSED_OPERATOR 6
+/* No ending. Place S. */
+#define OPB_REFUSED_ENDING 7
+/* Absolute weights above the limit, or a result beyond signed 64 bits. Place S; over a table, the row. */
+#define OPB_REFUSED_OVERFLOW 8
+/* Rows do not fit. Place: the count needed. */
+#define OPB_REFUSED_ROWS 9
+/* Terms do not fit. Place: the count needed. */
+#define OPB_REFUSED_TERMS 10
+/* Row that no table may hold: kind unknown, terms outside their column, an index above its limit; in writing also a comment outside its lent text, a negative weight or a negative cardinality
+ * bound; in evaluating also a comment or a missing row. Place: the row. */
+#define OPB_REFUSED_ROW 11
+/* Variable beyond the assignment. Place: the row. */
+#define OPB_REFUSED_ASSIGNMENT 12
+/* Constraint without terms, in writing. Place: the row. */
+#define OPB_REFUSED_EMPTY 13
+/* Output does not fit. Place: the length needed. */
+#define OPB_REFUSED_OUTPUT 14
+/* Comment text with an LF, in writing. Place: the row. */
+#define OPB_REFUSED_COMMENT 15
+
+/* ---- Answers. Where `refusal` is not OPB_ACCEPTED, every field but `place` is 0. */
+
+/* Of a table: its rows and terms. */
+typedef struct {
+    uint8_t refusal;
+    uint64_t place;
+    uint64_t rows;
+    uint64_t terms;
+} opb_table;
+
+/* Of a text: its length. */
+typedef struct {
+    uint8_t refusal;
+    uint64_t place;
+    uint64_t length;
+} opb_text;
+
+/* Of a row under an assignment: the sum of a constraint and in `holds` 1 if it holds, else 0; or the value of an objective and 2. In both cases the number of ones in the assignment's words. */
+typedef struct {
+    uint8_t refusal;
+    uint64_t place;
+    int64_t value;
+    uint8_t holds;
+    uint64_t ones;
+} opb_value;
+
+/* ---- Functions */
+
+/* The rows and terms that a file has, so that columns for them can be had. Changes nothing.
+ * Refusals: 1; then 2 to 8 at the first statement that has one. */
+opb_table opb_count(const uint8_t *file, size_t file_length, uint32_t first);
+
+/* A file into columns. Changes the first `rows` entries of the first four columns and the first `terms` entries of the last two.
+ * Refusals: those of opb_count; then 9, then 10. */
+opb_table opb_read(const uint8_t *file, size_t file_length, uint32_t first,
+                   uint8_t *kinds, size_t kinds_length,
+                   size_t *firsts, size_t firsts_length,
+                   size_t *counts, size_t counts_length,
+                   int64_t *bounds, size_t bounds_length,
+                   int64_t *weights, size_t weights_length,
+                   uint32_t *literals, size_t literals_length);
+
+/* A table's rows into other columns, each negative weight w on a literal turned into -w on the opposite literal: a bound grows by -w, an objective's offset falls by -w, so that every row means
+ * what it meant. Terms are packed row after row in their order; comment rows are copied. Changes the entries that it counts, as opb_read does.
+ * Refusals: row by row 11, 8; then 9, then 10. */
+opb_table opb_normalise(const uint8_t *kinds, size_t kinds_length,
+                        const size_t *firsts, size_t firsts_length,
+                        const size_t *counts, size_t counts_length,
+                        const int64_t *bounds, size_t bounds_length,
+                        const int64_t *weights, size_t weights_length,
+                        const uint32_t *literals, size_t literals_length,
+                        uint8_t *out_kinds, size_t out_kinds_length,
+                        size_t *out_firsts, size_t out_firsts_length,
+                        size_t *out_counts, size_t out_counts_length,
+                        int64_t *out_bounds, size_t out_bounds_length,
+                        int64_t *out_weights, size_t out_weights_length,
+                        uint32_t *out_literals, size_t out_literals_length);
+
+/* One row under an assignment: variable index v is bit v mod 64 of word v / 64. An objective's value is its sum plus its bound column. Changes nothing.
+ * Refusals: 11; 8 for absolute weights; 12; 8 for an objective's value. */
+opb_value opb_evaluate(const uint8_t *kinds, size_t kinds_length,
+                       const size_t *firsts, size_t firsts_length,
+                       const size_t *counts, size_t counts_length,
+                       const int64_t *bounds, size_t bounds_length,
+                       const int64_t *weights, size_t weights_length,
+                       const uint32_t *literals, size_t literals_length,
+                       size_t row, const uint64_t *words, size_t words_length);
+
+/* A table's rows as lines of an OPB file; `text` is what comment rows point into (for rows that were read: the file). `plain` 0 writes negated literals as `~x`; any other value is no-negated
+ * mode, where a negated literal of weight w is written -w on the plain variable and the bound falls by w, an objective's offset grows by w. An "at most" row is written with each literal
+ * negated, `>=`, and bound = weight sum less bound. An offset that is not 0 is a comment line behind its objective. Changes the first `length` bytes of `out`. Where `out_length` is 0,
+ * refusal 14 tells the length needed.
+ * Refusals: row by row 11, 15, 13, 5, 8; then 14. */
+opb_text opb_write(const uint8_t *kinds, size_t kinds_length,
+                   const size_t *firsts, size_t firsts_length,
+                   const size_t *counts, size_t counts_length,
+                   const int64_t *bounds, size_t bounds_length,
+                   const int64_t *weights, size_t weights_length,
+                   const uint32_t *literals, size_t literals_length,
+                   const uint8_t *text, size_t text_length, uint32_t first, uint8_t plain,
+                   uint8_t *out, size_t out_length);
+
+/* The first `rows` rows of a table (all, where it has fewer) as lines parted by tabs: `opb`, rows, terms, first index; then for each row `c` and the comment's length, or `ge`, `le`, `eq` or
+ * `min`, the bound, and weight and literal of each term. Changes the first `length` bytes of `out`. Where `out_length` is 0, refusal 14 tells the length needed.
+ * Refusals: row by row 11; then 14. */
+opb_text opb_list(const uint8_t *kinds, size_t kinds_length,
+                  const size_t *firsts, size_t firsts_length,
+                  const size_t *counts, size_t counts_length,
+                  const int64_t *bounds, size_t bounds_length,
+                  const int64_t *weights, size_t weights_length,
+                  const uint32_t *literals, size_t literals_length,
+                  size_t rows, uint32_t first,
+                  uint8_t *out, size_t out_length);
+
+#ifdef __cplusplus
+}
+#endif
+
+#endif

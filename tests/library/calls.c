@@ -1,0 +1,249 @@
+/* The calls of libopb.a from C: what each answers, each refusal with its place, and that a refused call changes nothing. Prints what failed and, last, 'N passed, M failed'. */
+#include <stdio.h>
+#include <string.h>
+#include <sys/mman.h>
+#include "opb.h"
+
+static int passed, failed;
+
+static void check(int holds, const char *what) {
+    if (holds) {
+        passed++;
+        return;
+    }
+    failed++;
+    printf("failed: %s\n", what);
+}
+
+/* ---- tables */
+
+enum { ROOM = 16 };
+
+typedef struct {
+    uint8_t kinds[ROOM];
+    size_t firsts[ROOM], counts[ROOM];
+    int64_t bounds[ROOM], weights[ROOM];
+    uint32_t literals[ROOM];
+} table;
+
+/* six columns as a call takes them, each with so many entries for rows or terms */
+#define COLUMNS(t, rows, terms) \
+    (t).kinds, (rows), (t).firsts, (rows), (t).counts, (rows), (t).bounds, (rows), (t).weights, (terms), (t).literals, (terms)
+#define NO_COLUMNS NULL, 0, NULL, 0, NULL, 0, NULL, 0, NULL, 0, NULL, 0
+
+static table blank(void) {
+    table t;
+    memset(&t, 0xAA, sizeof t);
+    return t;
+}
+
+static int unchanged(const table *t) {
+    table b = blank();
+    return memcmp(t, &b, sizeof b) == 0;
+}
+
+static opb_table read_text(const char *text, uint32_t first, table *t, size_t rows, size_t terms) {
+    return opb_read((const uint8_t *)text, strlen(text), first, COLUMNS(*t, rows, terms));
+}
+
+static int is_table(opb_table a, uint64_t rows, uint64_t terms) {
+    return a.refusal == OPB_ACCEPTED && a.place == 0 && a.rows == rows && a.terms == terms;
+}
+
+static int table_refused(opb_table a, uint8_t number, uint64_t place) {
+    return a.refusal == number && a.place == place && a.rows == 0 && a.terms == 0;
+}
+
+/* a table with one row over the first of its terms */
+static table one_row(uint8_t kind, size_t count, int64_t bound) {
+    table t = {.kinds = {kind}, .counts = {count}, .bounds = {bound}};
+    return t;
+}
+
+static const char *const PLAN = "* budget\n3 x1 -2 ~x2 >= 1;\nmin: 4 x3;\n1 x1 < 1\n";
+
+/* ---- reading */
+
+static void reads_the_plan(void) {
+    table t = blank();
+    check(is_table(read_text(PLAN, 1, &t, ROOM, ROOM), 4, 4), "the plan is read");
+    check(memcmp(t.kinds, ((uint8_t[]){OPB_COMMENT, OPB_AT_LEAST, OPB_OBJECTIVE, OPB_AT_MOST}), 4) == 0, "kinds");
+    check(memcmp(t.firsts, ((size_t[]){2, 0, 2, 3}), 4 * sizeof(size_t)) == 0, "firsts");
+    check(memcmp(t.counts, ((size_t[]){6, 2, 1, 1}), 4 * sizeof(size_t)) == 0, "counts");
+    check(memcmp(t.bounds, ((int64_t[]){0, 1, 0, 0}), 4 * sizeof(int64_t)) == 0, "bounds");
+    check(memcmp(t.weights, ((int64_t[]){3, -2, 4, 1}), 4 * sizeof(int64_t)) == 0, "weights");
+    check(memcmp(t.literals, ((uint32_t[]){0, 3, 4, 0}), 4 * sizeof(uint32_t)) == 0, "literals");
+    check(t.kinds[4] == 0xAA && t.literals[4] == 0xAAAAAAAA, "entries that are not counted stay");
+}
+
+static void counts(void) {
+    check(is_table(opb_count((const uint8_t *)PLAN, strlen(PLAN), 1), 4, 4), "the plan is counted");
+    check(is_table(opb_count(NULL, 0, 1), 0, 0), "NULL with length 0 is the empty file");
+    check(is_table(opb_read(NULL, 0, 1, NO_COLUMNS), 0, 0), "the empty file needs no columns");
+}
+
+static void refuses_files(void) {
+    static const struct {
+        const char *text;
+        uint32_t first;
+        uint8_t number;
+        uint64_t place;
+    } files[] = {
+        {">= 1;", 1, OPB_REFUSED_STATEMENT, 0},
+        {"1 x1 >= 1;\n\n1 x2 >= 1;", 1, OPB_REFUSED_STATEMENT, 11},
+        {"1 x1 >= ;", 1, OPB_REFUSED_NUMBER, 0},
+        {"1x1 >= 1;", 1, OPB_REFUSED_LITERAL, 0},
+        {"1 x0 >= 1;", 1, OPB_REFUSED_VARIABLE, 0},
+        {"  1 x1073741825 >= 1;", 1, OPB_REFUSED_VARIABLE, 2},
+        {"1 x1;", 1, OPB_REFUSED_OPERATOR, 0},
+        {"1 x1 >= 1 2", 1, OPB_REFUSED_ENDING, 0},
+        {"1 x1 < -9223372036854775808;", 1, OPB_REFUSED_OVERFLOW, 0},
+        {"9223372036854775807 x1 1 x2 >= 0;", 1, OPB_REFUSED_OVERFLOW, 0},
+    };
+    for (size_t i = 0; i < sizeof files / sizeof *files; i++) {
+        table t = blank();
+        check(table_refused(read_text(files[i].text, files[i].first, &t, ROOM, ROOM), files[i].number, files[i].place), files[i].text);
+        check(table_refused(opb_count((const uint8_t *)files[i].text, strlen(files[i].text), files[i].first), files[i].number, files[i].place), "counted as read");
+        check(unchanged(&t), "a refused file changes no column");
+    }
+}
+
+static void refuses_short_columns(void) {
+    table t = blank();
+    check(table_refused(read_text(PLAN, 1, &t, 3, ROOM), OPB_REFUSED_ROWS, 4), "rows needed");
+    check(table_refused(read_text(PLAN, 1, &t, 4, 3), OPB_REFUSED_TERMS, 4), "terms needed");
+    check(unchanged(&t), "short columns stay as they were");
+}
+
+/* The file is a mapping that nothing may look at: only its length counts. */
+static void refuses_a_long_file(void) {
+    size_t length = (size_t)OPB_FILE_LIMIT + 1;
+    uint8_t *file = mmap(NULL, length, PROT_NONE, MAP_PRIVATE | MAP_ANONYMOUS | MAP_NORESERVE, -1, 0);
+    check(file != MAP_FAILED, "a mapping above the file limit");
+    if (file == MAP_FAILED) return;
+    table t = blank();
+    check(table_refused(opb_count(file, length, 1), OPB_REFUSED_FILE_LENGTH, 0), "a long file is not counted");
+    check(table_refused(opb_read(file, length, 1, COLUMNS(t, ROOM, ROOM)), OPB_REFUSED_FILE_LENGTH, 0), "a long file is not read");
+    check(unchanged(&t), "a long file changes no column");
+    munmap(file, length);
+}
+
+/* ---- normalising and evaluating */
+
+static void normalises(void) {
+    table t = blank(), n = blank();
+    read_text("3 x1 -2 x2 >= -1;\nmin: -4 x1;", 1, &t, ROOM, ROOM);
+    check(is_table(opb_normalise(COLUMNS(t, 2, 3), COLUMNS(n, ROOM, ROOM)), 2, 3), "normalised");
+    check(n.bounds[0] == 1 && n.bounds[1] == -4, "the bound grows, the offset falls");
+    check(memcmp(n.weights, ((int64_t[]){3, 2, 4}), 3 * sizeof(int64_t)) == 0, "no weight is negative");
+    check(memcmp(n.literals, ((uint32_t[]){0, 3, 1}), 3 * sizeof(uint32_t)) == 0, "literals opposite");
+}
+
+static void refuses_to_normalise(void) {
+    table n = blank(), t = one_row(OPB_CLAUSE, 0, 0);
+    check(table_refused(opb_normalise(COLUMNS(t, 1, 0), COLUMNS(n, ROOM, ROOM)), OPB_REFUSED_ROW, 0), "a kind that is not read");
+    t = one_row(OPB_AT_LEAST, 1, INT64_MAX);
+    t.weights[0] = -1;
+    check(table_refused(opb_normalise(COLUMNS(t, 1, 1), COLUMNS(n, ROOM, ROOM)), OPB_REFUSED_OVERFLOW, 0), "a bound beyond 64 bits");
+    t.bounds[0] = 0;
+    check(table_refused(opb_normalise(COLUMNS(t, 1, 1), NO_COLUMNS), OPB_REFUSED_ROWS, 1), "normal rows needed");
+    check(table_refused(opb_normalise(COLUMNS(t, 1, 1), COLUMNS(n, ROOM, 0)), OPB_REFUSED_TERMS, 1), "normal terms needed");
+    check(unchanged(&n), "a refused normalising changes no column");
+}
+
+static int is_value(opb_value v, int64_t value, uint8_t holds, uint64_t ones) {
+    return v.refusal == OPB_ACCEPTED && v.place == 0 && v.value == value && v.holds == holds && v.ones == ones;
+}
+
+static int value_refused(opb_value v, uint8_t number, uint64_t place) {
+    return v.refusal == number && v.place == place && v.value == 0 && v.holds == 0 && v.ones == 0;
+}
+
+static void evaluates(void) {
+    const uint64_t first_and_third[] = {5};
+    table t = blank();
+    read_text(PLAN, 1, &t, ROOM, ROOM);
+    check(is_value(opb_evaluate(COLUMNS(t, 4, 4), 1, first_and_third, 1), 1, 1, 2), "3 x1 -2 ~x2 >= 1 holds");
+    check(is_value(opb_evaluate(COLUMNS(t, 4, 4), 3, first_and_third, 1), 1, 0, 2), "1 x1 < 1 does not");
+    check(is_value(opb_evaluate(COLUMNS(t, 4, 4), 2, first_and_third, 1), 4, 2, 2), "the objective's value");
+    check(value_refused(opb_evaluate(COLUMNS(t, 4, 4), 0, first_and_third, 1), OPB_REFUSED_ROW, 0), "a comment has no value");
+    check(value_refused(opb_evaluate(COLUMNS(t, 4, 4), 4, first_and_third, 1), OPB_REFUSED_ROW, 4), "nor has a missing row");
+    check(value_refused(opb_evaluate(COLUMNS(t, 4, 4), 1, NULL, 0), OPB_REFUSED_ASSIGNMENT, 1), "no words");
+    t.weights[0] = INT64_MAX;
+    check(value_refused(opb_evaluate(COLUMNS(t, 4, 4), 1, first_and_third, 1), OPB_REFUSED_OVERFLOW, 1), "weights above the limit");
+}
+
+/* ---- writing and listing */
+
+static uint8_t out[512];
+
+static int is_text(opb_text a, const char *text) {
+    return a.refusal == OPB_ACCEPTED && a.place == 0 && a.length == strlen(text) && memcmp(out, text, a.length) == 0;
+}
+
+static int text_refused(opb_text a, uint8_t number, uint64_t place) {
+    return a.refusal == number && a.place == place && a.length == 0;
+}
+
+static void writes(void) {
+    const char *plan = "* hall\n3 x1 2 x2 <= 4;\nmin: 4 ~x1 1 x3;\n";
+    const uint8_t *text = (const uint8_t *)plan;
+    table t = blank();
+    read_text(plan, 1, &t, ROOM, ROOM);
+    check(is_text(opb_write(COLUMNS(t, 3, 4), text, strlen(plan), 1, 0, out, sizeof out), "* hall\n3 ~x1 2 ~x2 >= 1;\nmin: 4 ~x1 1 x3;\n"), "written with negated literals");
+    check(is_text(opb_write(COLUMNS(t, 3, 4), text, strlen(plan), 1, 1, out, sizeof out),
+                  "* hall\n-3 x1 -2 x2 >= -4;\nmin: -4 x1 1 x3;\n* objective offset for previous objective: 4\n"),
+          "written without negated literals");
+    t = one_row(OPB_CLAUSE, 2, 0);
+    t.literals[1] = 3;
+    check(is_text(opb_write(COLUMNS(t, 1, 2), NULL, 0, 1, 1, out, sizeof out), "1 x1 -1 x2 >= 0;\n"), "a clause");
+    t.kinds[0] = OPB_CARDINALITY_AT_MOST;
+    t.bounds[0] = 1;
+    check(is_text(opb_write(COLUMNS(t, 1, 2), NULL, 0, 1, 0, out, sizeof out), "1 ~x1 1 x2 >= 1;\n"), "a cardinality row");
+    check(opb_write(COLUMNS(t, 1, 2), NULL, 0, 1, 0, out, 17).length == 17, "just enough room");
+}
+
+static void refuses_to_write(void) {
+    uint8_t before[sizeof out];
+    memcpy(before, out, sizeof out);
+    table t = one_row(OPB_AT_LEAST, 1, 0);
+    check(text_refused(opb_write(COLUMNS(t, 1, 1), NULL, 0, 1, 0, NULL, 0), OPB_REFUSED_OUTPUT, 11), "the length needed");
+    check(text_refused(opb_write(COLUMNS(t, 1, 0), NULL, 0, 1, 0, out, sizeof out), OPB_REFUSED_ROW, 0), "terms outside their column");
+    t.literals[0] = 2;
+    check(text_refused(opb_write(COLUMNS(t, 1, 1), NULL, 0, UINT32_MAX, 0, out, sizeof out), OPB_REFUSED_VARIABLE, 0), "a file number beyond u32");
+    t.bounds[0] = INT64_MIN;
+    t.kinds[0] = OPB_AT_MOST;
+    check(text_refused(opb_write(COLUMNS(t, 1, 1), NULL, 0, 1, 0, out, sizeof out), OPB_REFUSED_OVERFLOW, 0), "a bound beyond 64 bits");
+    t.counts[0] = 0;
+    check(text_refused(opb_write(COLUMNS(t, 1, 1), NULL, 0, 1, 0, out, sizeof out), OPB_REFUSED_EMPTY, 0), "a constraint without terms");
+    t = one_row(OPB_COMMENT, 3, 0);
+    check(text_refused(opb_write(COLUMNS(t, 1, 0), (const uint8_t *)"a\nb", 3, 1, 0, out, sizeof out), OPB_REFUSED_COMMENT, 0), "a comment with an LF");
+    check(memcmp(out, before, sizeof out) == 0, "a refused writing changes no byte");
+}
+
+static void lists(void) {
+    const char *lines = "opb\t4\t4\t1\nc\t6\nge\t1\t3\tx1\t-2\t~x2\nmin\t0\t4\tx3\nle\t0\t1\tx1\n";
+    table t = blank();
+    read_text(PLAN, 1, &t, ROOM, ROOM);
+    check(is_text(opb_list(COLUMNS(t, 4, 4), 4, 1, out, sizeof out), lines), "the plan's house lines");
+    check(is_text(opb_list(COLUMNS(t, 4, 4), 1, 1, out, sizeof out), "opb\t1\t0\t1\nc\t6\n"), "the first row alone");
+    check(text_refused(opb_list(COLUMNS(t, 4, 4), 4, 1, NULL, 0), OPB_REFUSED_OUTPUT, strlen(lines)), "the length of the lines");
+    check(text_refused(opb_list(COLUMNS(t, 5, 4), 5, 1, out, sizeof out), OPB_REFUSED_ROW, 4), "a row that no table may hold");
+}
+
+int main(void) {
+    check(sizeof(opb_table) == 32 && sizeof(opb_text) == 24 && sizeof(opb_value) == 40, "sizes of the answers");
+    reads_the_plan();
+    counts();
+    refuses_files();
+    refuses_short_columns();
+    refuses_a_long_file();
+    normalises();
+    refuses_to_normalise();
+    evaluates();
+    writes();
+    refuses_to_write();
+    lists();
+    printf("%d passed, %d failed\n", passed, failed);
+    return failed != 0;
+}
