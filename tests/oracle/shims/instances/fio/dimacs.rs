@@ -1,0 +1,1 @@
+//! Shim for instances/fio/dimacs.rs, of which nothing is used.
