@@ -8,7 +8,7 @@ pub mod instances;
 pub mod solvers;
 pub mod types;
 
-use instances::fio::opb::{read_rows, write_goal, write_opb_lines, FileLine, Options};
+use instances::fio::opb::{count_statements, read_rows, write_goal, write_opb_lines, FileLine, Options};
 use std::cell::Cell;
 use std::io::{self, BufRead, Read};
 use std::panic::{catch_unwind, set_hook, take_hook, AssertUnwindSafe};
@@ -95,6 +95,24 @@ pub fn read(file: &[u8], first: u32) -> Reading {
         Ok(Ok(rows)) => Reading::Rows(rows, watched.left),
         Ok(Err(error)) => Reading::Error(error.to_string()),
         Err(panic) => Reading::Panic(panic),
+    }
+}
+
+/// How many statements `parse_opb_data` finds, for bench/: nothing is recorded and no panic caught
+pub fn count(mut file: &[u8], first: u32) -> Option<usize> {
+    count_statements(&mut file, Options { first_var_idx: first, no_negated_lits: true }).ok()
+}
+
+/// Rows as `write_opb_lines` takes them, for bench/
+pub struct Lines(Vec<FileLine<Vec<(Lit, usize)>>>);
+
+impl Lines {
+    pub fn of(rows: &[Row]) -> Lines {
+        Lines(rows.iter().map(line).collect())
+    }
+
+    pub fn write(self, out: &mut Vec<u8>, first: u32, plain: bool) {
+        write_opb_lines(out, self.0.into_iter(), Options { first_var_idx: first, no_negated_lits: plain }).unwrap();
     }
 }
 

@@ -1,0 +1,129 @@
+/* Times one call: measure WHAT FILE, WHAT one of read, tight, newlines, write, write-plain. Prints the seconds, the bytes that they went over and the peak memory of the process in KB. Columns and outputs
+ * are there and touched before the clock starts, as a caller's who reads many files.
+ *
+ * On x86-64 the library is called as include/opb.h says. Elsewhere the same module was compiled for this processor (bench/library), and the address of the answer is its functions' first parameter. */
+#include <stdio.h>
+#include <stdlib.h>
+#include <string.h>
+#include <sys/resource.h>
+#include <time.h>
+
+#include "opb.h"
+#include "tight.h"
+
+#ifdef __x86_64__
+#define ASK(answer, call, ...) (answer = opb_##call(__VA_ARGS__))
+#else
+void *at_count() __asm__("opb_count");
+void *at_read() __asm__("opb_read");
+void *at_normalise() __asm__("opb_normalise");
+void *at_write() __asm__("opb_write");
+#define ASK(answer, call, ...) at_##call(&answer, __VA_ARGS__)
+#endif
+
+typedef struct {
+    uint8_t *kinds;
+    size_t *firsts, *counts;
+    int64_t *bounds, *weights;
+    uint32_t *literals;
+    size_t rows, terms;
+} table;
+
+#define LENT(t) (t)->kinds, (t)->rows, (t)->firsts, (t)->rows, (t)->counts, (t)->rows, (t)->bounds, (t)->rows, (t)->weights, (t)->terms, (t)->literals, (t)->terms
+
+static uint8_t *file;
+static size_t length;
+
+static void *room(size_t bytes) {
+    void *there = malloc(bytes + 1);
+    if (there == NULL) exit(2);
+    return memset(there, 1, bytes + 1);
+}
+
+static table columns(size_t rows, size_t terms) {
+    table t = {room(rows), room(8 * rows), room(8 * rows), room(8 * rows), room(8 * terms), room(4 * terms), rows, terms};
+    return t;
+}
+
+static void accepted(uint8_t refusal) {
+    if (refusal != OPB_ACCEPTED) {
+        fprintf(stderr, "measure: refusal %d\n", refusal);
+        exit(1);
+    }
+}
+
+static double now(void) {
+    struct timespec t;
+    clock_gettime(CLOCK_MONOTONIC, &t);
+    return (double)t.tv_sec + 1e-9 * (double)t.tv_nsec;
+}
+
+static void told(double began, size_t bytes) {
+    double seconds = now() - began;
+    struct rusage used;
+    getrusage(RUSAGE_SELF, &used);
+    printf("%.9f %zu %ld\n", seconds, bytes, used.ru_maxrss);
+}
+
+static table counted(void) {
+    opb_table a;
+    ASK(a, count, file, length, 1u);
+    accepted(a.refusal);
+    return columns(a.rows, a.terms);
+}
+
+static table read_file(int timed) {
+    opb_table a;
+    table t = counted();
+    double began = now();
+    ASK(a, read, file, length, 1u, LENT(&t));
+    if (timed) told(began, length);
+    accepted(a.refusal);
+    return t;
+}
+
+static void write_table(unsigned plain) {
+    opb_table a;
+    opb_text w;
+    table t = read_file(0), n = columns(t.rows, t.terms);
+    ASK(a, normalise, LENT(&t), LENT(&n));
+    accepted(a.refusal);
+    size_t most = 2 * length + 64;
+    uint8_t *out = room(most);
+    double began = now();
+    ASK(w, write, LENT(&n), file, length, 1u, plain, out, most);
+    accepted(w.refusal);
+    told(began, w.length);
+}
+
+static void read_tight(void) {
+    table t = counted();
+    double began = now();
+    size_t rows = tight_read(file, file + length, t.bounds, t.weights, t.literals);
+    told(began, length);
+    if (rows != t.rows) exit(1);
+}
+
+static void newlines(void) {
+    double began = now();
+    size_t n = 0;
+    for (size_t i = 0; i < length; i++) n += file[i] == '\n';
+    told(began, length);
+    if (n == 0) exit(1);
+}
+
+int main(int count, char **words) {
+    FILE *from = count == 3 ? fopen(words[2], "rb") : NULL;
+    if (from == NULL || fseek(from, 0, SEEK_END) != 0) return 2;
+    length = (size_t)ftell(from);
+    file = room(length);
+    rewind(from);
+    if (fread(file, 1, length, from) != length) return 2;
+    if (strcmp(words[1], "read") == 0) read_file(1);
+    else if (strcmp(words[1], "tight") == 0) read_tight();
+    else if (strcmp(words[1], "newlines") == 0) newlines();
+    else if (strcmp(words[1], "write") == 0) write_table(0);
+    else if (strcmp(words[1], "write-plain") == 0) write_table(1);
+    else return 2;
+    return 0;
+}

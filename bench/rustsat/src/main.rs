@@ -1,0 +1,46 @@
+//! Times rustsat: rustsat-bench WHAT FILE, WHAT one of read, write, write-plain. Prints what bench/measure.c prints. The rows written are those of the file without negative weights.
+
+use rustsat::{kind, Lines, Reading, Row};
+use std::time::Instant;
+
+fn peak() -> u64 {
+    let status = std::fs::read_to_string("/proc/self/status").unwrap_or_default();
+    let line = status.lines().find(|line| line.starts_with("VmHWM:")).unwrap_or("");
+    line.split_whitespace().nth(1).and_then(|word| word.parse().ok()).unwrap_or(0)
+}
+
+fn told(began: Instant, bytes: usize) {
+    println!("{:.9} {} {}", began.elapsed().as_secs_f64(), bytes, peak());
+}
+
+/// A negative weight w on a literal is -w on the opposite one; a bound grows by -w
+fn normal(mut row: Row) -> Row {
+    for term in row.terms.iter_mut().filter(|term| term.0 < 0) {
+        *term = (-term.0, term.1 ^ 1);
+        row.bound += if row.kind == kind::OBJECTIVE { -term.0 } else { term.0 };
+    }
+    if row.kind == kind::COMMENT {
+        row.text = row.text.split_off(2.min(row.text.len()));
+        row.text.retain(|&byte| byte != b'\n');
+    }
+    row
+}
+
+fn main() {
+    let words: Vec<String> = std::env::args().collect();
+    let file = std::fs::read(&words[2]).expect("a file");
+    if words[1] == "read" {
+        let began = Instant::now();
+        let statements = rustsat::count(&file, 1).expect("the file is read");
+        told(began, file.len());
+        assert!(statements > 0);
+        return;
+    }
+    let Reading::Rows(rows, left) = rustsat::read(&file, 1) else { panic!("the file is read") };
+    assert!(left.trim().is_empty());
+    let lines = Lines::of(&rows.into_iter().map(normal).collect::<Vec<_>>());
+    let mut out = Vec::with_capacity(2 * file.len() + 64);
+    let began = Instant::now();
+    lines.write(&mut out, 1, words[1] == "write-plain");
+    told(began, out.len());
+}
