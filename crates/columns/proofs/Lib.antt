@@ -3,3 +3,4 @@ pub mod Sizes
 pub mod Sums
 pub mod Terms
 pub mod OneAnswer
+pub mod KindNumbers

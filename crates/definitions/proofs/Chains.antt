@@ -1,10 +1,10 @@
 -- Laws of `chain`: a link at a time, as code takes it; and how many bytes a chain takes.
-use Prim.Native.Nat.{ℕ, zero, suc, _+_, _-_, _≤_, _<_}
+use Prim.Native.Nat.{ℕ, _+_, _-_, _≤_}
 use mathlib.Core.Path.{_≡_, refl, sym, ap, _∙_}
 use mathlib.Core.List.{List}
 use native.Mathlib.Omega.{arith}
 use lib.ListN.{length, drop, length-drop}
-use Rattle.definitions.specs.Reader.{Got, none, got, Reader, more, thenAt, chain, done}
+use Rattle.definitions.specs.Reader.{Got, none, got, Reader, more, chain, done}
 
 module _ {A B : Type 0} (p : Reader A) (k : A → Reader B) (s : List ℕ) where
   pub chain-none : (e : ℕ) → p s ≡ none e → chain p k s ≡ none e

@@ -39,3 +39,4 @@ pub mod Needed
 pub mod Columns
 pub mod Normals
 pub mod Puts
+pub mod SameAnswers

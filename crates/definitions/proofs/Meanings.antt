@@ -1,15 +1,13 @@
 -- Every assignment finds a row, its normal form and its printed form alike: whether it holds, and an objective's value.
-use Prim.Native.Nat.{ℕ, zero, suc, _+_, _-_, _*_, _/_, _%_, _≤_, _<_}
+use Prim.Native.Nat.{ℕ, suc, _+_, _-_, _/_, _%_}
 use mathlib.Core.Path.{_≡_, refl, sym, ap, ap₂, _∙_}
 use mathlib.Core.Bool.{Bool, true, false, cond, not, _&&_}
 use mathlib.Core.List.{List, [], _∷_, map}
 use native.Mathlib.Omega.{arith}
-use native.Mathlib.Decide.{decLt}
 use borrow.Author.Tests.{eq-eqb, ne-eqb, eqb-true, eqb-false}
-use lib.Dec.{eqb}
 use lib.IntN.{ℤ, pos, negsuc, negℤ, _+ℤ_, _-ℤ_, +ℤ-idr, +ℤ-idl, +ℤ-invr, +ℤ-invl}
 use lib.Signed.{leZ}
-use Rattle.definitions.proofs.Whole.{up, dn, up-pos, dn-pos, up-negsuc, dn-negsuc, up-neg, dn-neg, sum-is, diff-is, one-side, same, le-same}
+use Rattle.definitions.proofs.Whole.{up, dn, sum-is, diff-is, same, le-same}
 use Rattle.definitions.specs.Literal.{negated, opposite, plain}
 use Rattle.definitions.specs.Row.{Term, weightOf, Kind, atLeast, atMost, equal, objective, Row}
 use Rattle.definitions.specs.Meaning.{isTrue, sumOf, holdsBy, holds, valueOf}

@@ -1,5 +1,5 @@
 -- What is known of rows that were read: each weight is within 64 bits and each index within its limit, absolute weights are at most M, and the bound is within 64 bits.
-use Prim.Native.Nat.{ℕ, zero, suc, _+_, _-_, _*_, _/_, _≤_, _<_}
+use Prim.Native.Nat.{ℕ, _+_, _-_, _≤_}
 use mathlib.Core.Path.{_≡_, refl, sym, ap, _∙_}
 use mathlib.Core.Bool.{Bool, true, false, cond, _&&_, _||_}
 use mathlib.Core.List.{List, [], _∷_}
@@ -7,7 +7,7 @@ use native.Mathlib.Omega.{arith}
 use borrow.Author.Tests.{leb-true, le-leb}
 use lib.Dec.{leb, eqb}
 use lib.ListN.{length, drop}
-use lib.IntN.{ℤ, pos}
+use lib.IntN.{ℤ}
 use mir.Syntax.{w64}
 use mir.Val.{SFits}
 use Rattle.definitions.specs.Lists.{AllOf}
@@ -17,10 +17,10 @@ use Rattle.definitions.specs.Bytes.{blanks, begins, classOf, letterX, ti
 use Rattle.definitions.specs.Reader.{Got, none, got, Reader, more, chain, done, fail}
 use Rattle.definitions.specs.Number.{leading, value, number}
 use Rattle.definitions.specs.Literal.{index, indexOf, isIndex, codeOf}
-use Rattle.definitions.specs.Walk.{Step, stop, bad, item, Walked, broken, items, all, anywhere}
-use Rattle.definitions.specs.Row.{Term, term, Kind, objective, Row, rowOf, Line, comment, row, termsOf, sizes}
+use Rattle.definitions.specs.Walk.{stop, item, Walked, broken, items, all, anywhere}
+use Rattle.definitions.specs.Row.{Term, term, Kind, Row, rowOf, Line, comment, row, sizes}
 use Rattle.definitions.specs.Table.{indexed}
-use Rattle.definitions.specs.Text.{gap, gap1, codeBy, digits, variable, literal, afterWeight, weighted, termStep, asGot, sum, Comparison, comparison, kindOf, boundOf, sized, constraint, ending, minBlanks, goal, remark, asLine, statementBy, afterBlanks, statementAt, statement, inFile}
+use Rattle.definitions.specs.Text.{gap, gap1, codeBy, digits, variable, literal, afterWeight, weighted, termStep, asGot, sum, comparison, sized, constraint, ending, minBlanks, goal, remark, asLine, statementBy, afterBlanks, statementAt, statement, inFile}
 use Rattle.definitions.specs.File.{statements}
 use Rattle.definitions.specs.declared.Options.{Options}
 use Rattle.definitions.specs.declared.Beginning.{Beginning}
@@ -29,7 +29,7 @@ use Rattle.definitions.proofs.Whole.{true-in}
 use Rattle.definitions.proofs.Numbers.{number-fits}
 use Rattle.definitions.proofs.Chains.{chain-linked}
 use Rattle.definitions.proofs.Walks.{all-ended}
-use Rattle.definitions.proofs.Statements.{term-step-item, sized-got}
+use Rattle.definitions.proofs.Statements.{term-step-item}
 use Rattle.definitions.proofs.Tables.{Indexed}
 
 pub record GoodTerm (t : Term) : Type 0 where

@@ -2,26 +2,25 @@
 use Prim.Native.Nat.{ℕ, zero, suc, _+_, _-_, _≤_, _<_}
 use mathlib.Core.Path.{_≡_, refl, sym, ap, _∙_}
 use mathlib.Core.Bool.{Bool, true, false, cond, _&&_, _||_}
-use mathlib.Core.List.{List, [], _∷_, _++_}
+use mathlib.Core.List.{List, [], _∷_}
 use native.Mathlib.Omega.{arith}
-use borrow.Author.Tests.{le-leb, eq-eqb, ne-eqb}
 use lib.Dec.{leb, eqb}
-use lib.ListN.{length, take, drop, length-drop}
+use lib.ListN.{length, drop, length-drop}
 use lib.IntN.{ℤ, pos}
 use Rattle.definitions.specs.Refusal.{Checked, refuse, accept}
-use Rattle.definitions.specs.Bytes.{minText, isSign, isDigit, isAt, blanks, lineEnding, untilEnding, begins, classOf, space, lf, minus, semicolon, less, equals, greater, letterX, tilde}
+use Rattle.definitions.specs.Bytes.{minText, isAt, blanks, lineEnding, untilEnding, begins, classOf, minus, semicolon, less, equals, greater, letterX, tilde}
 use Rattle.definitions.specs.Reader.{Got, none, got, Reader, more, chain, done, fail}
 use Rattle.definitions.specs.Number.{leading, value, number}
 use Rattle.definitions.specs.Literal.{index}
-use Rattle.definitions.specs.Walk.{Step, stop, bad, item, Walked, broken, items, before, walk, all, anywhere}
+use Rattle.definitions.specs.Walk.{stop, item, Walked, broken, items, walk, all, anywhere}
 use Rattle.definitions.specs.Lists.{startsWith}
 use Rattle.definitions.specs.Limits.{weightLimit, inI64}
 use Rattle.definitions.specs.Row.{Term, Kind, Row, rowOf, Line, comment, row, termsOf, sizes}
-use Rattle.definitions.specs.Text.{gap, someBlanks, gap1, codeBy, digits, variable, literal, afterWeight, weighted, beginsTerm, asStep, termStep, asGot, sum, operator, closing, ending, Comparison, comparison, sized, constraint, minWord, minBlanks, goal, remark, asLine, statementBy, afterBlanks, statementAt, statement, inFile, spaceAfter}
+use Rattle.definitions.specs.Text.{gap, someBlanks, gap1, codeBy, digits, variable, literal, afterWeight, weighted, beginsTerm, asStep, termStep, asGot, sum, operator, closing, ending, Comparison, comparison, sized, constraint, minWord, minBlanks, goal, remark, asLine, statementBy, afterBlanks, statementAt, statement, spaceAfter}
 use Rattle.definitions.specs.declared.Options.{Options}
 use Rattle.definitions.specs.declared.Beginning.{Beginning}
 use Rattle.definitions.specs.declared.Beginning.the-variants.{Comment, Objective, Constraint, Nothing}
-use Rattle.definitions.proofs.Chains.{Within, within-chain, within-done, Linked, chain-linked}
+use Rattle.definitions.proofs.Chains.{Within, within-chain, within-done, chain-linked}
 use Rattle.definitions.proofs.Walks.{Moves, all-ended, total, all-summed, total-one}
 use Rattle.definitions.proofs.Texts.{blanks-within, ending-within, until-within}
 use Rattle.definitions.proofs.Numbers.{number-within, leading-length}

@@ -1,18 +1,17 @@
 -- A table that lines were filled into holds these lines: its rows, taken as the normaliser, the evaluator and the writer take them, are the lines again.
-use Prim.Native.Nat.{ℕ, zero, suc, _+_, _≤_, _<_, min}
+use Prim.Native.Nat.{ℕ, _+_, _≤_}
 use mathlib.Core.Path.{_≡_, refl, sym, ap, _∙_}
-use mathlib.Core.Bool.{Bool, true, false, cond, _&&_}
-use mathlib.Core.List.{List, [], _∷_, _++_, map, append-assoc, append-nil}
+use mathlib.Core.Bool.{true}
+use mathlib.Core.List.{List, [], _∷_, _++_, map, append-assoc}
 use native.Mathlib.Omega.{arith}
 use borrow.Author.Tests.{le-leb}
-use lib.Dec.{leb, eqb}
 use lib.ListN.{length, take, drop, length-append, length-map, length-drop}
 use lib.Seq.{take-append-seam, drop-append-seam}
 use lib.IntN.{ℤ}
 use Rattle.definitions.specs.Lists.{over, joined, AllOf}
-use Rattle.definitions.specs.Refusal.{Checked, refuse, accept}
-use Rattle.definitions.specs.Row.{Term, term, weightOf, literalOf, Kind, atLeast, atMost, equal, objective, Row, rowOf, Line, comment, row, termsOf}
-use Rattle.definitions.specs.Table.{Table, table, rowRoom, termRoom, Outcome, refused, accepted, kindNumber, kindIn, firstIn, countIn, boundIn, firstsFrom, allTerms, filled, Entry, entriesOf, entries, termsOn, termsAt, inColumn, indexed, Sort, weighted, remark, sortOf, onRow, rowByRow, rowIn, lineBy, lineIn}
+use Rattle.definitions.specs.Refusal.{accept}
+use Rattle.definitions.specs.Row.{Term, weightOf, literalOf, Kind, atLeast, atMost, equal, objective, Line, comment, row, termsOf}
+use Rattle.definitions.specs.Table.{Table, table, termRoom, accepted, kindNumber, kindIn, firstIn, countIn, boundIn, firstsFrom, allTerms, filled, Entry, entriesOf, entries, termsOn, termsAt, inColumn, indexed, weighted, remark, sortOf, rowByRow, lineIn}
 
 -- the entries of lines, the first of which has m terms before it
 unfoldable pub entriesFor : ℕ → List Line → List Entry

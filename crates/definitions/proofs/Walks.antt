@@ -5,7 +5,7 @@ use mathlib.Core.List.{List, [], _∷_, _++_, append-assoc, append-nil}
 use native.Mathlib.Omega.{arith}
 use lib.ListN.{length, drop, length-drop}
 use lib.Seq.{drop-drop}
-use Rattle.definitions.specs.Refusal.{Refusal, refusal}
+use Rattle.definitions.specs.Refusal.{refusal}
 use Rattle.definitions.specs.Lists.{AllOf}
 use Rattle.definitions.specs.Walk.{Step, stop, bad, item, Walked, broken, items, before, walk, all}
 

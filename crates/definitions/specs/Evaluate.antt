@@ -1,14 +1,14 @@
 -- Evaluating one row under an assignment lent as words (01): "The evaluator answers, for one row, the sum and whether it holds; for an objective, the sum plus the bound column. Order 11
 -- (comments and missing rows too), 8 for absolute weights, 12, then 8 for an objective's value. It also reports the number of ones in the assignment's words. Words after the first
 -- 16,777,216 are not looked at."
-use Prim.Native.Nat.{ℕ, zero, suc, _*_}
+use Prim.Native.Nat.{ℕ, _*_}
 use mathlib.Core.Bool.{Bool, true, cond, _&&_}
 use mathlib.Core.List.{List, [], _∷_}
 use lib.Dec.{leb, ltb}
 use lib.IntN.{ℤ}
 use lib.ListN.{length, take, drop}
 use Rattle.definitions.specs.Limits.{weightLimit, inI64, wordLimit}
-use Rattle.definitions.specs.Refusal.{Refusal, refusal, Checked, refuse, accept}
+use Rattle.definitions.specs.Refusal.{refusal, Checked, refuse, accept}
 use Rattle.definitions.specs.Literal.{indexOf}
 use Rattle.definitions.specs.Row.{Term, Kind, atLeast, atMost, equal, objective, Row, Line, comment, row, sizes}
 use Rattle.definitions.specs.Table.{Table, Outcome, refused, accepted, Entry, entries, lineIn, andThen}

@@ -6,7 +6,7 @@ use mathlib.Core.List.{List}
 use lib.Dec.{leb}
 use lib.ListN.{length}
 use Rattle.definitions.specs.Limits.{fileLimit}
-use Rattle.definitions.specs.Refusal.{Refusal, refusal}
+use Rattle.definitions.specs.Refusal.{refusal}
 use Rattle.definitions.specs.Walk.{Walked, broken, items, all}
 use Rattle.definitions.specs.Row.{Line}
 use Rattle.definitions.specs.Text.{statement, inFile}

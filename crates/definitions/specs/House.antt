@@ -3,12 +3,11 @@
 use Prim.Native.Nat.{ℕ}
 use mathlib.Core.List.{List, [], _∷_, _++_}
 use lib.ListN.{length, take}
-use lib.IntN.{ℤ}
 use Rattle.definitions.specs.Lists.{joined}
 use Rattle.definitions.specs.Refusal.{Refusal}
 use Rattle.definitions.specs.Bytes.{tab, lf}
 use Rattle.definitions.specs.Number.{decimal, integerText}
-use Rattle.definitions.specs.Row.{Term, Kind, atLeast, atMost, equal, objective, Row, Line, comment, row}
+use Rattle.definitions.specs.Row.{Term, Kind, atLeast, atMost, equal, objective, Line, comment, row}
 use Rattle.definitions.specs.Table.{Table, Outcome, refused, accepted, allTerms, entries, rowByRow, lineIn}
 use Rattle.definitions.specs.Write.{literalText, fittedText}
 

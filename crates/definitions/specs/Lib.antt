@@ -11,6 +11,7 @@ pub mod Row
 pub mod Text
 pub mod Table
 pub mod File
+pub mod Stepping
 pub mod Meaning
 pub mod Normal
 pub mod Evaluate

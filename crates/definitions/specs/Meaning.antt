@@ -1,7 +1,7 @@
 -- What rows say of an assignment. "Meaning of sums, 'at least' and 'equal' is the public OPB document's": variables take 0 or 1, `~x` is 1 - x, a sum is the sum of weight times
 -- value, as whole numbers.
 use Prim.Native.Nat.{ℕ, zero, suc, _+_, _*_, _/_, _%_, _^_}
-use mathlib.Core.Bool.{Bool, true, false, cond, not, _&&_}
+use mathlib.Core.Bool.{Bool, true, cond, not, _&&_}
 use mathlib.Core.List.{List, [], _∷_}
 use lib.Dec.{eqb}
 use lib.IntN.{ℤ, pos, _+ℤ_}

@@ -1,10 +1,10 @@
 -- Tables as lent columns (01, "Numbers and tables"): six lists, four with an entry for each row, two with an entry for each term.
 use Prim.Native.Nat.{ℕ, _+_, min}
-use mathlib.Core.Bool.{Bool, true, false, cond, _&&_}
+use mathlib.Core.Bool.{Bool, true, cond, _&&_}
 use mathlib.Core.List.{List, [], _∷_, map}
 use lib.Dec.{leb, eqb}
 use lib.ListN.{length, take, drop}
-use lib.IntN.{ℤ, pos}
+use lib.IntN.{ℤ}
 use Rattle.definitions.specs.Lists.{over, joined}
 use Rattle.definitions.specs.Refusal.{Refusal, refusal, needed, Checked, refuse, accept}
 use Rattle.definitions.specs.Literal.{indexOf, isIndex}

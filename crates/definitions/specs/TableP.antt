@@ -1,6 +1,6 @@
 -- The examples that 01 marks P ("Examples on each side"), as one table: what is asked, and 01's answer. proofs/TableP.antt has the one statement over it.
 use Prim.Native.Nat.{ℕ}
-use Prim.Native.Char.{Char, code}
+use Prim.Native.Char.{code}
 use Prim.Native.String as S
 use mathlib.Core.Bool.{Bool, true, false}
 use mathlib.Core.List.{List, [], _∷_}

@@ -8,7 +8,7 @@ use lib.ListN.{length, drop}
 use lib.IntN.{ℤ, pos, _+ℤ_, _-ℤ_}
 use Rattle.definitions.specs.Lists.{startsWith}
 use Rattle.definitions.specs.Limits.{weightLimit, inI64}
-use Rattle.definitions.specs.Refusal.{Checked, refuse, accept, Refusal}
+use Rattle.definitions.specs.Refusal.{Checked, refuse, accept}
 use Rattle.definitions.specs.Bytes.{isSign, isDigit, isAt, blanks, lineEnding, untilEnding, begins, classOf, minText, space, minus, semicolon, less, equals, greater, letterX, tilde}
 use Rattle.definitions.specs.Reader.{Got, none, got, Reader, more, chain, done, fail}
 use Rattle.definitions.specs.Number.{leading, value, number}

@@ -8,7 +8,7 @@ use lib.IntN.{ℤ, pos, negsuc, negℤ, _-ℤ_}
 use lib.Signed.{nonNeg}
 use Rattle.definitions.specs.Lists.{over, joined}
 use Rattle.definitions.specs.Limits.{weightLimit, inI64}
-use Rattle.definitions.specs.Refusal.{Refusal, refusal, needed, Checked, refuse, accept}
+use Rattle.definitions.specs.Refusal.{refusal, needed, Checked, refuse, accept}
 use Rattle.definitions.specs.Bytes.{minText, lf, space, star, semicolon, less, equals, greater, letterX, tilde}
 use Rattle.definitions.specs.Number.{integerText, decimal}
 use Rattle.definitions.specs.Literal.{indexOf, negated, opposite, plain, fileNumber}
@@ -190,6 +190,11 @@ textOf m room (accepted is) = fittedText room (joined (itemText m) is)
 -- the rows of the table t, with the lent comment text, into an output of so many bytes
 unfoldable pub writing : Mode → Table → List ℕ → ℕ → Outcome (List ℕ)
 writing m t text room = textOf m room (rowByRow (writtenIn m t text) 0 (entries t))
+
+-- a text's length in place of the text
+abbrev pub lengthOf : Outcome (List ℕ) → Outcome ℕ
+lengthOf (refused r) = refused r
+lengthOf (accepted s) = accepted (length s)
 
 -- what the output holds after a call
 unfoldable pub outputAfter : Outcome (List ℕ) → List ℕ → List ℕ

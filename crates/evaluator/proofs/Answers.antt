@@ -3,18 +3,18 @@ use mathlib.Core.Path.{_≡_, refl, sym, ap, _∙_}
 use mathlib.Core.Bool.{Bool, true, false, cond}
 use mathlib.Core.Logic.{_⊎_, inl, inr}
 use mathlib.Core.List.{List, []}
-use Prim.Native.Nat.{ℕ, zero, suc, _+_, _≤_, _<_, min}
+use Prim.Native.Nat.{ℕ, _+_, _≤_, _<_, min}
 use native.Mathlib.Omega.{arith}
 use native.Mathlib.Decide.{decLe}
-use borrow.Author.Tests.{ne-eqb, le-leb, lt-leb}
-use lib.Dec.{eqb, leb}
+use borrow.Author.Tests.{le-leb, lt-leb}
+use lib.Dec.{leb}
 use lib.IntN.{ℤ, _+ℤ_}
 use lib.ListN.{length, take}
 use lib.Seq.{take-all}
 use Rattle.definitions.specs.Limits.{weightLimit, wordLimit}
 use Rattle.definitions.specs.Refusal.{refusal, Checked, refuse, accept}
 use Rattle.definitions.specs.Row.{Term, Kind, atLeast, atMost, equal, objective, Row, rowOf, Line, row}
-use Rattle.definitions.specs.Table.{Table, rowRoom, refused, accepted, Entry, termsOn, indexed, Sort, remark, clause, unknown, weighted, cardinality, sortOf, lineBy, lineIn, andThen, table}
+use Rattle.definitions.specs.Table.{Table, rowRoom, refused, accepted, Entry, termsOn, indexed, remark, sortOf, lineIn, andThen, table}
 use Rattle.definitions.specs.Meaning.{sumOf, holdsBy, holds, valueOf, assigned, onesOf}
 use Rattle.definitions.specs.Evaluate.{Evaluated as Found, constraint, foundBy, found, foundIn, onPlace, evaluating}
 use Rattle.columns.specs.Parts.{codesIndexed, weightSizes}
@@ -22,7 +22,9 @@ use Rattle.columns.proofs.Terms.{entryAt, entries-from, entries-end, terms-at, 
 use Rattle.evaluator.specs.Said.{saidEvaluated}
 use Rattle.evaluator.specs.declared.Evaluated.{Evaluated}
 use Rattle.evaluator.specs.declared.Evaluated.the-variants.{Refused}
-use Rattle.evaluator.specs.Parts.{kindOf, codesCovered, valued, foundOf, foundAt}
+use Rattle.columns.specs.Kinds.{readKind}
+use Rattle.columns.proofs.KindNumbers.{read-kind, unread-kind, line-by-terms}
+use Rattle.evaluator.specs.Parts.{codesCovered, valued, foundOf, foundAt}
 use Rattle.evaluator.proofs.Literals.{covered-on}
 
 -- a refusal, where the definition has it
@@ -65,7 +67,7 @@ module _ (kind : ℕ) (bound : ℤ) (ws : List ℤ) (cs words : List ℕ) (l : l
       terms-12 c = rw (indexed-on ws cs l, i, sizes-on ws cs l, le-leb (weightSizes ws) weightLimit h, covered-on words ws cs l, c)
 
       pub terms-found : codesCovered words cs ≡ true
-          → foundOf kind bound (termsOn ws cs) words ≡ foundBy (kindOf kind) words (rowOf (kindOf kind) bound (termsOn ws cs))
+          → foundOf kind bound (termsOn ws cs) words ≡ foundBy (readKind kind) words (rowOf (readKind kind) bound (termsOn ws cs))
       unfolding found
       terms-found c = rw (indexed-on ws cs l, i, sizes-on ws cs l, le-leb (weightSizes ws) weightLimit h, covered-on words ws cs l, c)
 
@@ -75,29 +77,6 @@ module _ (kind : ℕ) (bound : ℤ) (ws : List ℤ) (cs words : List ℕ) (l : l
 sort-low : (n : ℕ) → n < 1 → sortOf n ≡ remark
 unfolding sortOf
 sort-low n h = let e : n ≡ 0 = omega arith in ap sortOf e
-
-sort-high : {A : Type 0} (n : ℕ) (t : Table) (e : Entry) (f : Line → Checked A) → 4 < n → andThen (lineBy (sortOf n) t e) f ≡ refuse 11
-unfolding sortOf
-sort-high n t e f h =
-    rw (ne-eqb n 0 (λ q. omega arith), ne-eqb n 1 (λ q. omega arith), ne-eqb n 2 (λ q. omega arith), ne-eqb n 3 (λ q. omega arith), ne-eqb n 4 (λ q. omega arith))
-    (cases (eqb n 5) (eqb n 6) (eqb n 7) (eqb n 8))
-  where
-    cases : (p q r s : Bool)
-        → andThen (lineBy (cond p clause (cond q (cardinality atLeast) (cond r (cardinality atMost) (cond s (cardinality equal) unknown)))) t e) f ≡ refuse 11
-    cases true q r s = refl
-    cases false true r s = refl
-    cases false false true s = refl
-    cases false false false true = refl
-    cases false false false false = refl
-
-sort-read : (n : ℕ) → 1 ≤ n → n ≤ 4 → sortOf n ≡ weighted (kindOf n)
-unfolding sortOf kindOf
-sort-read zero h g = absurd (omega arith)
-sort-read (suc zero) h g = refl
-sort-read (suc (suc zero)) h g = refl
-sort-read (suc (suc (suc zero))) h g = refl
-sort-read (suc (suc (suc (suc zero)))) h g = refl
-sort-read (suc (suc (suc (suc (suc n))))) h g = absurd (omega arith)
 
 row-found : (words : List ℕ) (b : Bool) (r : Row) → andThen (cond b (accept (row r)) (refuse 11)) (foundIn words) ≡ cond b (found words r) (refuse 11)
 row-found words true r = refl
@@ -111,33 +90,21 @@ module _ (e : Entry) (ws : List ℤ) (cs words : List ℕ) where
   pub entry-unread : (e .kind < 1) ⊎ (4 < e .kind) → foundAt e ws cs words ≡ refuse 11
   unfolding lineIn
   entry-unread (inl h) = rw (sort-low (e .kind) h)
-  entry-unread (inr h) = sort-high (e .kind) columns e (foundIn words) h
+  entry-unread (inr h) = rw (unread-kind (e .kind) columns e h)
 
   module _ (h : 1 ≤ e .kind) (g : e .kind ≤ 4) where
     pub entry-outside : leb (e .first + e .count) (min (length ws) (length cs)) ≡ false → foundAt e ws cs words ≡ refuse 11
     unfolding lineIn
-    entry-outside o = rw (sort-read (e .kind) h g, o)
+    entry-outside o = rw (read-kind (e .kind) (λ q. omega arith) g .sort, o)
 
     pub entry-inside : leb (e .first + e .count) (min (length ws) (length cs)) ≡ true
         → foundAt e ws cs words ≡ foundOf (e .kind) (e .bound) (termsOn (weightsAt columns e) (literalsAt columns e)) words
     unfolding lineIn
     entry-inside o =
-        rw (sort-read (e .kind) h g, o, terms-at columns e)
-        (row-found words (indexed (termsOn (weightsAt columns e) (literalsAt columns e))) (rowOf (kindOf (e .kind)) (e .bound) (termsOn (weightsAt columns e) (literalsAt columns e))))
+        rw (read-kind (e .kind) (λ q. omega arith) g .sort, o, terms-at columns e)
+        (row-found words (indexed (termsOn (weightsAt columns e) (literalsAt columns e))) (rowOf (readKind (e .kind)) (e .bound) (termsOn (weightsAt columns e) (literalsAt columns e))))
 
 -- ---- a row of the table
-
--- of an entry only the columns of terms matter
-line-by-terms : (t : Table) (e : Entry) → lineIn (table [] [] [] [] (t .weights) (t .literals)) e ≡ lineIn t e
-unfolding lineIn
-line-by-terms t e = cases (sortOf (e .kind))
-  where
-    cases : (s : Sort) → lineBy s (table [] [] [] [] (t .weights) (t .literals)) e ≡ lineBy s t e
-    cases remark = refl
-    cases clause = refl
-    cases unknown = refl
-    cases (weighted k) = refl
-    cases (cardinality k) = refl
 
 take-room : {A : Type 0} (n : ℕ) (l : List A) → take (min (length l) n) l ≡ take n l
 take-room n l = cases (decLe (length l) n)
@@ -155,4 +122,4 @@ module _ (t : Table) (i : ℕ) (words : List ℕ) where
   unfolding evaluating
   row-there h =
       rw (entries-from t i h, take-room wordLimit words)
-      (ap (λ (l : Checked Line). onPlace i (andThen l (foundIn (take wordLimit words)))) (line-by-terms t (entryAt t i)))
+      (ap (λ (l : Checked Line). onPlace i (andThen l (foundIn (take wordLimit words)))) (sym (line-by-terms t (entryAt t i))))

@@ -2,20 +2,17 @@
 use Prim.Native.Nat.{ℕ, _*_}
 use mathlib.Core.Bool.{Bool, cond}
 use mathlib.Core.List.{List, []}
-use lib.Dec.{ltb, eqb}
+use lib.Dec.{ltb}
 use lib.ListN.{length}
 use lib.IntN.{ℤ}
 use Rattle.definitions.specs.Limits.{inI64}
 use Rattle.definitions.specs.Refusal.{Checked, refuse, accept}
 use Rattle.definitions.specs.Literal.{indexOf}
-use Rattle.definitions.specs.Row.{Term, Kind, atLeast, atMost, equal, objective, rowOf}
+use Rattle.definitions.specs.Row.{Term, rowOf}
 use Rattle.definitions.specs.Table.{table, Entry, indexed, lineIn, andThen}
 use Rattle.definitions.specs.Evaluate.{Evaluated, goal, found, foundIn}
 use Rattle.columns.specs.Parts.{every}
-
--- the kind of a row whose number in the column of kinds is a read row's
-unfoldable pub kindOf : ℕ → Kind
-kindOf n = cond (eqb n 1) atLeast (cond (eqb n 2) atMost (cond (eqb n 3) equal objective))
+use Rattle.columns.specs.Kinds.{readKind}
 
 -- not "variable beyond the assignment"
 abbrev pub codesCovered : List ℕ → List ℕ → Bool
@@ -27,7 +24,7 @@ valued value ones = cond (inI64 value) (accept (goal value ones)) (refuse 8)
 
 -- a row of a read kind with these terms, which lie in their columns
 abbrev pub foundOf : ℕ → ℤ → List Term → List ℕ → Checked Evaluated
-foundOf kind bound ts ws = cond (indexed ts) (found ws (rowOf (kindOf kind) bound ts)) (refuse 11)
+foundOf kind bound ts ws = cond (indexed ts) (found ws (rowOf (readKind kind) bound ts)) (refuse 11)
 
 -- an entry of a table with these two columns of terms
 abbrev pub foundAt : Entry → List ℤ → List ℕ → List ℕ → Checked Evaluated

@@ -13,7 +13,8 @@ ghost use Rattle.definitions.specs.Table.{table, termsOn};
 ghost use Rattle.definitions.specs.Meaning.{isTrue, sumOf, holdsBy, assigned, onesOf};
 ghost use Rattle.definitions.specs.Evaluate.{foundBy, onPlace, evaluating};
 ghost use Rattle.evaluator.specs.Said.{saidEvaluated};
-ghost use Rattle.evaluator.specs.Parts.{kindOf, codesCovered, valued, foundOf, foundAt};
+ghost use Rattle.columns.specs.Kinds.{readKind};
+ghost use Rattle.evaluator.specs.Parts.{codesCovered, valued, foundOf, foundAt};
 
 // "The evaluator answers, for one row, the sum and whether it holds; for an objective, the sum plus the bound column ... It also reports the number of ones in
 // the assignment's words."
@@ -106,7 +107,7 @@ fn ones_of(words: &[u64]) -> u64
 
 // Whether a sum holds against a bound; of an objective nothing is asked.
 fn holds(kind: u8, sum: i64, bound: i64) -> bool
-    ensures { λ r. ⌜ r ≡ holdsBy (kindOf kind) sum bound ⌝ }
+    ensures { λ r. ⌜ r ≡ holdsBy (readKind kind) sum bound ⌝ }
 {
     match kind {
         AT_LEAST => bound <= sum,
@@ -140,7 +141,7 @@ fn answer(
     requires few { ⌜ length (now words) ≤ wordLimit ⌝ }
     requires small { ⌜ sizes (termsOn (now weights) (now literals)) ≤ weightLimit ⌝ }
     requires covers { ⌜ codesCovered (now words) (now literals) ≡ true ⌝ }
-    ensures { λ r. ⌜ saidEvaluated r ≡ onPlace row (foundBy (kindOf kind) (now (words .entry)) (rowOf (kindOf kind) bound (termsOn (now (weights .entry)) (now (literals .entry))))) ⌝ }
+    ensures { λ r. ⌜ saidEvaluated r ≡ onPlace row (foundBy (readKind kind) (now (words .entry)) (rowOf (readKind kind) bound (termsOn (now (weights .entry)) (now (literals .entry))))) ⌝ }
 {
     let sum = sum_of(weights, literals, words);
     let ones = ones_of(words);

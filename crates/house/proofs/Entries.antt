@@ -2,65 +2,29 @@
 use mathlib.Core.Path.{_≡_, refl, sym, ap, _∙_}
 use mathlib.Core.Bool.{Bool, true, false, cond}
 use mathlib.Core.List.{List, [], _∷_}
-use Prim.Native.Nat.{ℕ, zero, suc, _+_, _≤_, _<_, _^_}
+use Prim.Native.Nat.{ℕ, _+_, _≤_, _<_, _^_}
 use native.Mathlib.Omega.{arith}
 use native.Mathlib.Decide.{decLe}
-use borrow.Author.Tests.{ne-eqb}
-use lib.Dec.{eqb}
 use lib.IntN.{ℤ}
 use lib.ListN.{length, length-append}
 use Rattle.definitions.specs.Lists.{joined}
 use Rattle.definitions.specs.Refusal.{refuse, accept, needed}
 use Rattle.definitions.specs.Bytes.{lf}
 use Rattle.definitions.specs.Number.{decimal, integerText}
-use Rattle.definitions.specs.Row.{atLeast, atMost, equal, Line, comment, row, rowOf}
-use Rattle.definitions.specs.Table.{Table, table, Entry, termsOn, inColumn, indexed, Sort, remark, clause, unknown, weighted, cardinality, sortOf, lineBy, lineIn}
+use Rattle.definitions.specs.Row.{Line, comment, row, rowOf}
+use Rattle.definitions.specs.Table.{Table, table, Entry, termsOn, inColumn, indexed, sortOf, lineIn}
 use Rattle.definitions.specs.House.{field, termFields}
 use Rattle.definitions.proofs.Puts.{needed-add, count-length-most}
 use Rattle.columns.specs.Parts.{codesIndexed}
 use Rattle.columns.proofs.Terms.{terms-count, weightsAt, literalsAt, terms-at, weights-at-count, literals-at-count, indexed-on}
 use Rattle.house.specs.declared.measure.Size.{Size}
-use Rattle.house.specs.Words.{kindOf, rowOn, lineOn, wordField, commentLine}
+use Rattle.columns.specs.Kinds.{readKind}
+use Rattle.columns.proofs.KindNumbers.{read-kind, unread-kind}
+use Rattle.house.specs.Words.{rowOn, lineOn, wordField, commentLine}
 use Rattle.house.specs.Sizes.{sizeIn}
 use Rattle.house.proofs.Words.{comment-words, line-length}
 
--- ---- the numbers in the column of kinds
-
-read-kind : (k : ℕ) → (k ≡ 0 → ⊥) → k ≤ 4 → sortOf k ≡ weighted (kindOf k)
-unfolding sortOf kindOf
-read-kind zero h g = absurd (h refl)
-read-kind (suc zero) h g = refl
-read-kind (suc (suc zero)) h g = refl
-read-kind (suc (suc (suc zero))) h g = refl
-read-kind (suc (suc (suc (suc zero)))) h g = refl
-read-kind (suc (suc (suc (suc (suc k))))) h g = absurd (omega arith)
-
-unread-kind : (k : ℕ) (t : Table) (e : Entry) → 4 < k → lineBy (sortOf k) t e ≡ refuse 11
-unfolding sortOf
-unread-kind k t e h =
-    rw (ne-eqb k 0 (λ z. omega arith), ne-eqb k 1 (λ z. omega arith), ne-eqb k 2 (λ z. omega arith), ne-eqb k 3 (λ z. omega arith), ne-eqb k 4 (λ z. omega arith))
-    (by (eqb k 5) (eqb k 6) (eqb k 7) (eqb k 8))
-  where
-    by : (p q r s : Bool) → lineBy (cond p clause (cond q (cardinality atLeast) (cond r (cardinality atMost) (cond s (cardinality equal) unknown)))) t e ≡ refuse 11
-    by true q r s = refl
-    by false true r s = refl
-    by false false true s = refl
-    by false false false true = refl
-    by false false false false = refl
-
 -- ---- the line of an entry
-
--- it is in the two columns of terms alone
-pub line-on : (t : Table) (e : Entry) → lineIn t e ≡ lineOn (t .weights) (t .literals) e
-unfolding lineIn
-line-on t e = by (sortOf (e .kind))
-  where
-    by : (s : Sort) → lineBy s t e ≡ lineBy s (table [] [] [] [] (t .weights) (t .literals)) e
-    by remark = refl
-    by clause = refl
-    by unknown = refl
-    by (weighted k) = refl
-    by (cardinality k) = refl
 
 module _ (ws : List ℤ) (cs : List ℕ) (e : Entry) where
   abbrev pub on : Table
@@ -77,11 +41,11 @@ module _ (ws : List ℤ) (cs : List ℕ) (e : Entry) where
   module _ (h : e .kind ≡ 0 → ⊥) (g : e .kind ≤ 4) where
     pub outside-entry : inColumn on e ≡ false → lineOn ws cs e ≡ refuse 11
     unfolding lineIn
-    outside-entry i = rw (read-kind (e .kind) h g, i)
+    outside-entry i = rw (read-kind (e .kind) h g .sort, i)
 
     pub inside-entry : inColumn on e ≡ true → lineOn ws cs e ≡ rowOn (e .kind) (e .bound) (weightsAt on e) (literalsAt on e)
     unfolding lineIn
-    inside-entry i = rw (read-kind (e .kind) h g, i, terms-at on e)
+    inside-entry i = rw (read-kind (e .kind) h g .sort, i, terms-at on e)
 
   -- what an accepted entry has
   module _ (l : Line) (a : lineOn ws cs e ≡ accept l) where
@@ -91,7 +55,7 @@ module _ (ws : List ℤ) (cs : List ℕ) (e : Entry) where
     pub record ReadEntry : Type 0 where
       pub inside : inColumn on e ≡ true
       pub long : length (weightsAt on e) ≡ length (literalsAt on e)
-      pub is : l ≡ row (rowOf (kindOf (e .kind)) (e .bound) (termsOn (weightsAt on e) (literalsAt on e)))
+      pub is : l ≡ row (rowOf (readKind (e .kind)) (e .bound) (termsOn (weightsAt on e) (literalsAt on e)))
 
     not-refused : lineOn ws cs e ≡ refuse 11 → ⊥
     not-refused q = let z : _≡_ {A = ℕ} 0 1 = cc in omega arith
@@ -130,8 +94,8 @@ module _ (first : ℕ) (ws : List ℤ) (cs : List ℕ) where
     row-refused i = rw (indexed-on ws cs long, i)
 
     pub row-sized : (n m t : ℕ) → codesIndexed cs ≡ true → n ≡ length cs → t ≡ needed (length (joined (termFields first) (termsOn ws cs)))
-        → m ≡ needed (t + (length (wordField (kindOf k)) + (length (integerText b) + 1)))
+        → m ≡ needed (t + (length (wordField (readKind k)) + (length (integerText b) + 1)))
         → accept (record { terms = n; length = m }) ≡ sizeIn first (rowOn k b ws cs)
     row-sized n m t i p q r =
         rw (indexed-on ws cs long, i)
-        (ap accept (size-eq (omega (arith, p, terms-count ws cs, long)) (r ∙ rw (q, needed-add, line-length first (kindOf k) b (termsOn ws cs)))))
+        (ap accept (size-eq (omega (arith, p, terms-count ws cs, long)) (r ∙ rw (q, needed-add, line-length first (readKind k) b (termsOn ws cs)))))

@@ -16,7 +16,7 @@ use Rattle.house.specs.Words.{lineOn, linesOf}
 use Rattle.house.specs.Sizes.{sizeOf, sizeIn, Sizes, sizesIn}
 use Rattle.house.specs.Ready.{RowReady, RowsReady}
 use Rattle.house.proofs.Fields.{needed-more, needed-more-yet}
-use Rattle.house.proofs.Entries.{line-on}
+use Rattle.columns.proofs.KindNumbers.{line-by-terms}
 
 -- ---- what a size was counted of
 
@@ -60,7 +60,7 @@ module _ (t : Table) (n : ℕ) where
   module _ (first i : ℕ) (all : Size) (m : Measures first i all) where
     module _ (h : i < n) (g : i < rowRoom t) where
       here : lineIn t (entryAt t i) ≡ lineOn (t .weights) (t .literals) (entryAt t i)
-      here = line-on t (entryAt t i)
+      here = line-by-terms t (entryAt t i)
 
       pub measures-refused : refuse 11 ≡ sizeIn first (lineOn (t .weights) (t .literals) (entryAt t i)) → refused (refusal 11 i) ≡ sizesIn first (linesOf n t)
       measures-refused e =
@@ -121,7 +121,7 @@ module _ (t : Table) (n : ℕ) where
           omega (arith, r .room, ap length whole, length-append a (b ++ c), length-append b c)
 
       accepts : lineOn (t .weights) (t .literals) (entryAt t i) ≡ accept (next .line)
-      accepts = sym (line-on t (entryAt t i)) ∙ next .is
+      accepts = sym (line-by-terms t (entryAt t i)) ∙ next .is
 
       pub putting-ready : RowReady first (t .weights) (t .literals) (entryAt t i) end out
       putting-ready =

@@ -3,7 +3,6 @@ use mathlib.Core.Path.{_≡_, refl, sym, ap}
 use mathlib.Core.List.{List, [], _∷_, _++_, append-assoc}
 use Prim.Native.Nat.{ℕ, zero, suc, _+_, _≤_}
 use native.Mathlib.Omega.{arith}
-use borrow.Author.Tests.{ne-eqb}
 use lib.IntN.{ℤ}
 use lib.ListN.{length, length-append}
 use Rattle.definitions.specs.Lists.{joined}
@@ -12,37 +11,22 @@ use Rattle.definitions.specs.Bytes.{tab, lf}
 use Rattle.definitions.specs.Number.{decimal, integerText}
 use Rattle.definitions.specs.Row.{Term, Kind, atLeast, atMost, equal, objective, comment, row, rowOf}
 use Rattle.definitions.specs.House.{field, kindWord, termFields, houseLine, refusedLine}
-use Rattle.house.specs.Words.{kindOf, wordField, commentLine, headText}
+use Rattle.columns.specs.Kinds.{readKind}
+use Rattle.house.specs.Words.{wordField, commentLine, headText}
+use Rattle.columns.proofs.KindNumbers.{kind-objective}
 
--- ---- the kind of a number
+-- ---- the word of a kind
 
-module _ (k : ℕ) where
-  pub kind-one : k ≡ 1 → kindOf k ≡ atLeast
-  unfolding kindOf
-  kind-one e = rw e
-
-  pub kind-two : k ≡ 2 → kindOf k ≡ atMost
-  unfolding kindOf
-  kind-two e = rw e
-
-  pub kind-three : k ≡ 3 → kindOf k ≡ equal
-  unfolding kindOf
-  kind-three e = rw e
-
-  pub kind-other : (k ≡ 1 → ⊥) → (k ≡ 2 → ⊥) → (k ≡ 3 → ⊥) → kindOf k ≡ objective
-  unfolding kindOf
-  kind-other a b c = rw (ne-eqb k 1 a, ne-eqb k 2 b, ne-eqb k 3 c)
-
-pub word-two : (k : ℕ) → 1 ≤ k → k ≤ 3 → 2 ≡ length (kindWord (kindOf k))
-unfolding kindOf
+pub word-two : (k : ℕ) → 1 ≤ k → k ≤ 3 → 2 ≡ length (kindWord (readKind k))
+unfolding readKind
 word-two zero h g = absurd (omega arith)
 word-two (suc zero) h g = refl
 word-two (suc (suc zero)) h g = refl
 word-two (suc (suc (suc zero))) h g = refl
 word-two (suc (suc (suc (suc k)))) h g = absurd (omega arith)
 
-pub word-three : (k : ℕ) → (k ≡ 1 → ⊥) → (k ≡ 2 → ⊥) → (k ≡ 3 → ⊥) → 3 ≡ length (kindWord (kindOf k))
-word-three k a b c = rw (kind-other k a b c)
+pub word-three : (k : ℕ) → (k ≡ 1 → ⊥) → (k ≡ 2 → ⊥) → (k ≡ 3 → ⊥) → 3 ≡ length (kindWord (readKind k))
+word-three k a b c = rw (kind-objective k a b c)
 
 pub word-most : (k : Kind) → length (kindWord k) ≤ 3
 word-most atLeast = omega arith

@@ -4,11 +4,11 @@ use mathlib.Core.Path.{_≡_}
 use mathlib.Core.List.{List}
 use lib.ListN.{length}
 use Rattle.definitions.specs.Table.{Table}
-use Rattle.definitions.specs.Write.{outputAfter}
+use Rattle.definitions.specs.Write.{lengthOf, outputAfter}
 use Rattle.definitions.specs.House.{listingTable}
 use Rattle.house.specs.declared.Listed as code
-use Rattle.house.specs.Said.{saidListed, textLength}
+use Rattle.house.specs.Said.{saidListed}
 
 pub record Lists (first rows : ℕ) (t : Table) (o : List ℕ) (r : code.Listed) (o′ : List ℕ) : Type 0 where
-  pub answer : saidListed r ≡ textLength (listingTable first rows t (length o))
+  pub answer : saidListed r ≡ lengthOf (listingTable first rows t (length o))
   pub after : o′ ≡ outputAfter (listingTable first rows t (length o)) o

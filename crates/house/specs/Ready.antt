@@ -9,7 +9,8 @@ use Rattle.definitions.specs.Refusal.{accept}
 use Rattle.definitions.specs.Row.{Line, row, rowOf}
 use Rattle.definitions.specs.Table.{Table, rowRoom, accepted, Entry, termsOn}
 use Rattle.definitions.specs.House.{termFields, houseLine}
-use Rattle.house.specs.Words.{kindOf, lineOn, linesOf}
+use Rattle.columns.specs.Kinds.{readKind}
+use Rattle.house.specs.Words.{lineOn, linesOf}
 
 -- the terms of a row, from its part of the two columns
 pub record TermsReady (first : ℕ) (ws : List ℤ) (cs : List ℕ) (at : ℕ) (o : List ℕ) : Type 0 where
@@ -19,7 +20,7 @@ pub record TermsReady (first : ℕ) (ws : List ℤ) (cs : List ℕ) (at : ℕ) (
 -- a row of a kind
 pub record LineReady (first k : ℕ) (b : ℤ) (ws : List ℤ) (cs : List ℕ) (at : ℕ) (o : List ℕ) : Type 0 where
   pub long : length ws ≡ length cs
-  pub room : at + length (houseLine first (row (rowOf (kindOf k) b (termsOn ws cs)))) ≤ length o
+  pub room : at + length (houseLine first (row (rowOf (readKind k) b (termsOn ws cs)))) ≤ length o
 
 -- a row of a table with these two columns
 pub record RowReady (first : ℕ) (ws : List ℤ) (cs : List ℕ) (e : Entry) (at : ℕ) (o : List ℕ) : Type 0 where

@@ -2,23 +2,19 @@
 use Prim.Native.Nat.{ℕ}
 use mathlib.Core.Bool.{cond}
 use mathlib.Core.List.{List, [], _∷_, _++_}
-use lib.Dec.{eqb}
 use lib.IntN.{ℤ}
 use lib.ListN.{take}
 use Rattle.definitions.specs.Refusal.{Checked, refuse, accept}
 use Rattle.definitions.specs.Bytes.{tab, lf}
 use Rattle.definitions.specs.Number.{decimal}
-use Rattle.definitions.specs.Row.{Kind, atLeast, atMost, equal, objective, Line, row, rowOf}
+use Rattle.definitions.specs.Row.{Kind, Line, row, rowOf}
 use Rattle.definitions.specs.Table.{Table, table, Outcome, Entry, entries, termsOn, indexed, rowByRow, lineIn}
 use Rattle.definitions.specs.House.{field, kindWord}
-
--- of a row that is no comment
-unfoldable pub kindOf : ℕ → Kind
-kindOf k = cond (eqb k 1) atLeast (cond (eqb k 2) atMost (cond (eqb k 3) equal objective))
+use Rattle.columns.specs.Kinds.{readKind}
 
 -- a row of a kind whose terms lie in their columns: 11 for "an index above its limit"
 abbrev pub rowOn : ℕ → ℤ → List ℤ → List ℕ → Checked Line
-rowOn k b ws cs = cond (indexed (termsOn ws cs)) (accept (row (rowOf (kindOf k) b (termsOn ws cs)))) (refuse 11)
+rowOn k b ws cs = cond (indexed (termsOn ws cs)) (accept (row (rowOf (readKind k) b (termsOn ws cs)))) (refuse 11)
 
 -- the line of an entry of a table with these two columns
 abbrev pub lineOn : List ℤ → List ℕ → Entry → Checked Line

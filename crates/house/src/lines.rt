@@ -15,7 +15,8 @@ ghost use Rattle.definitions.specs.Row.{Line, row, rowOf};
 ghost use Rattle.definitions.specs.Table.{table, accepted, termsOn};
 ghost use Rattle.definitions.specs.House.{houseLine, refusedLine};
 ghost use Rattle.definitions.proofs.Puts.{Puts};
-ghost use Rattle.house.specs.Words.{headText, commentLine, wordField, kindOf, lineOn, linesOf};
+ghost use Rattle.columns.specs.Kinds.{readKind};
+ghost use Rattle.house.specs.Words.{headText, commentLine, wordField, lineOn, linesOf};
 ghost use Rattle.house.specs.Ready.{LineReady, RowReady, RowsReady};
 
 // "The first line is rows, terms, first index."
@@ -55,8 +56,8 @@ fn put_comment(count: usize, out: &mut [u8], at: usize) -> usize
 
 // The word of a kind, and the tab behind it.
 fn put_word(kind: u8, out: &mut [u8], at: usize) -> usize
-    requires { ⌜ at + length (wordField (kindOf kind)) ≤ length (now out) ⌝ }
-    ensures { λ r. ⌜ Puts (wordField (kindOf kind)) at (now (out .entry)) r (now (out .exit)) ⌝ }
+    requires { ⌜ at + length (wordField (readKind kind)) ≤ length (now out) ⌝ }
+    ensures { λ r. ⌜ Puts (wordField (readKind kind)) at (now (out .entry)) r (now (out .exit)) ⌝ }
 {
     match kind {
         1 => put_text(b"ge\t", out, at),
@@ -77,7 +78,7 @@ fn put_line(
     at: usize,
 ) -> usize
     requires { ⌜ LineReady first kind bound (now weights) (now literals) at (now out) ⌝ }
-    ensures { λ r. ⌜ Puts (houseLine first (row (rowOf (kindOf kind) bound (termsOn (now (weights .entry)) (now (literals .entry)))))) at (now (out .entry)) r (now (out .exit)) ⌝ }
+    ensures { λ r. ⌜ Puts (houseLine first (row (rowOf (readKind kind) bound (termsOn (now (weights .entry)) (now (literals .entry)))))) at (now (out .entry)) r (now (out .exit)) ⌝ }
 {
     let a = put_word(kind, out, at);
     let b = put_number(bound, out, a);

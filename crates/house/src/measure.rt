@@ -8,7 +8,8 @@ ghost use Rattle.definitions.specs.Refusal.{needed};
 ghost use Rattle.definitions.specs.Number.{integerText};
 ghost use Rattle.definitions.specs.Table.{table};
 ghost use Rattle.definitions.specs.House.{kindWord};
-ghost use Rattle.house.specs.Words.{kindOf, wordField, headText, rowOn, lineOn, linesOf};
+ghost use Rattle.columns.specs.Kinds.{readKind};
+ghost use Rattle.house.specs.Words.{wordField, headText, rowOn, lineOn, linesOf};
 ghost use Rattle.house.specs.Sizes.{saidSize, sizeIn, saidMeasured, sizesIn};
 
 // The numbers of the read rows in the column of kinds are 0 to 4.
@@ -36,7 +37,7 @@ pub(crate) enum Measured {
 }
 
 fn word_length(kind: u8) -> usize
-    ensures { λ r. ⌜ r ≡ length (kindWord (kindOf kind)) ⌝ }
+    ensures { λ r. ⌜ r ≡ length (kindWord (readKind kind)) ⌝ }
 {
     match kind {
         1 | 2 | 3 => 2,
@@ -46,7 +47,7 @@ fn word_length(kind: u8) -> usize
 
 // Behind the word stand a tab, the bound, the terms and an LF.
 fn line_length(kind: u8, bound: i64, terms: u64) -> u64
-    ensures { λ r. ⌜ r ≡ needed (terms + (length (wordField (kindOf kind)) + (length (integerText bound) + 1))) ⌝ }
+    ensures { λ r. ⌜ r ≡ needed (terms + (length (wordField (readKind kind)) + (length (integerText bound) + 1))) ⌝ }
 {
     let more = word_length(kind) + numbers::number_length(bound) + 2;
     add_needed(terms, more as u64)

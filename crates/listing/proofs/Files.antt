@@ -11,7 +11,7 @@ use Rattle.definitions.specs.Refusal.{refusal, needed, accept}
 use Rattle.definitions.specs.Row.{Line}
 use Rattle.definitions.specs.Table.{Table, Outcome, refused, accepted, entries, filled, Totals, totalsOf, allTerms, counted, after, rowByRow, lineIn}
 use Rattle.definitions.specs.File.{file, reading}
-use Rattle.definitions.specs.Write.{fittedText, outputAfter}
+use Rattle.definitions.specs.Write.{fittedText, outputAfter, lengthOf}
 use Rattle.definitions.specs.House.{refusedLine, listing, listingTable}
 use Rattle.definitions.proofs.Tables.{filled-back}
 use Rattle.definitions.proofs.ReadRows.{statements-good, good-indexed}
@@ -27,7 +27,6 @@ use Rattle.reader.specs.Reads.{Reads}
 use Rattle.reader.specs.Said.{saidAnswer}
 use Rattle.house.specs.declared.Listed as code
 use Rattle.house.specs.declared.Listed.the-variants as listed
-use Rattle.house.specs.Said.{saidListed, textLength}
 use Rattle.house.specs.Lists.{Lists}
 use Rattle.listing.specs.ListsFile.{firstAt, ListsFile}
 
@@ -52,7 +51,7 @@ accepted-count n m (accepted ls) e =
 
 -- where the definition says that it fits
 module _ (text o o′ : List ℕ) where
-  fitted-done : (n : ℕ) → accepted n ≡ textLength (fittedText (length o) text) → o′ ≡ outputAfter (fittedText (length o) text) o → Prints text 0 o (Done n) o′
+  fitted-done : (n : ℕ) → accepted n ≡ lengthOf (fittedText (length o) text) → o′ ≡ outputAfter (fittedText (length o) text) o → Prints text 0 o (Done n) o′
   unfolding outputAfter
   fitted-done n a q = by (leb (length text) (length o)) refl
     where
@@ -63,14 +62,14 @@ module _ (text o o′ : List ℕ) where
       by true e =
           let h : 0 + length text ≤ length o = omega (arith, leb-true (length text) (length o) e) in
           let f : fittedText (length o) text ≡ accepted text = rw e in
-          let l : accepted n ≡ accepted (length text) = a ∙ ap textLength f in
+          let l : accepted n ≡ accepted (length text) = a ∙ ap lengthOf f in
           let k : n ≡ 0 + length text = cc zero-on in
           record { answer = ap accept k ∙ sym (put-at-fits text 0 o h); after = q ∙ ap (λ (x : Outcome (List ℕ)). outputAfter x o) f ∙ rw (← zero-on) (sym (put-in-fits text 0 o h)) }
       by false e =
           let f : accepted n ≡ refused (refusal 14 (needed (length text))) = a ∙ rw e in
           let z : _≡_ {A = ℕ} 0 1 = cc in absurd (omega arith)
 
-  fitted-full : (n p : ℕ) → refused (refusal n p) ≡ textLength (fittedText (length o) text) → o′ ≡ outputAfter (fittedText (length o) text) o → Prints text 0 o Full o′
+  fitted-full : (n p : ℕ) → refused (refusal n p) ≡ lengthOf (fittedText (length o) text) → o′ ≡ outputAfter (fittedText (length o) text) o → Prints text 0 o Full o′
   unfolding outputAfter
   fitted-full n p a q = by (leb (length text) (length o)) refl
     where
@@ -117,13 +116,13 @@ module _ (first : ℕ) (s : List ℕ) (t : Table) where
       pub read-lists : (k : ℕ) → Lists first n t′ o (listed.Listed k) o′ → ListsFile first s t o (Done k) t′ o′
       read-lists k l =
           record {
-            prints = fitted-done (listing first (reading (firstAt first) s t)) o o′ k (l .answer ∙ ap textLength outcome) (l .after ∙ ap (λ (x : Outcome (List ℕ)). outputAfter x o) outcome);
+            prints = fitted-done (listing first (reading (firstAt first) s t)) o o′ k (l .answer ∙ ap lengthOf outcome) (l .after ∙ ap (λ (x : Outcome (List ℕ)). outputAfter x o) outcome);
             after = reads .after;
           }
 
       pub read-full : (k p : ℕ) → Lists first n t′ o (listed.Refused k p) o′ → ListsFile first s t o Full t′ o′
       read-full k p l =
           record {
-            prints = fitted-full (listing first (reading (firstAt first) s t)) o o′ k p (l .answer ∙ ap textLength outcome) (l .after ∙ ap (λ (x : Outcome (List ℕ)). outputAfter x o) outcome);
+            prints = fitted-full (listing first (reading (firstAt first) s t)) o o′ k p (l .answer ∙ ap lengthOf outcome) (l .after ∙ ap (λ (x : Outcome (List ℕ)). outputAfter x o) outcome);
             after = reads .after;
           }

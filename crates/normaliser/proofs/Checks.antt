@@ -11,11 +11,13 @@ use Rattle.definitions.specs.Limits.{weightLimit, inI64}
 use Rattle.definitions.specs.Refusal.{refusal, needed, Checked, refuse, accept}
 use Rattle.definitions.specs.Lists.{joined}
 use Rattle.definitions.specs.Row.{Line, termsOf}
-use Rattle.definitions.specs.Table.{Table, table, rowRoom, refused, accepted, totalsOf, Entry, entries, allTerms, Sort, remark, clause, unknown, weighted, cardinality, sortOf, andThen, lineBy, lineIn}
+use Rattle.definitions.specs.Table.{Table, table, rowRoom, refused, accepted, totalsOf, Entry, entries, allTerms, andThen}
 use Rattle.definitions.specs.Normal.{normalLine, normalIn}
 use Rattle.columns.specs.Parts.{codesIndexed, weightSizes}
 use Rattle.columns.proofs.Terms.{entryAt, entries-from, entries-end}
-use Rattle.normaliser.specs.Parts.{kindOf, weightRises, shiftBy, termsChecked, normalOf, termCount, totalsNeeded}
+use Rattle.columns.specs.Kinds.{readKind}
+use Rattle.columns.proofs.KindNumbers.{line-by-terms}
+use Rattle.normaliser.specs.Parts.{weightRises, shiftBy, termsChecked, normalOf, termCount, totalsNeeded}
 use Rattle.normaliser.specs.Fill.{normalRows}
 use Rattle.definitions.proofs.Columns.{terms-snoc}
 use Rattle.definitions.proofs.Columns.{Passed, passed-none, passed-all, passed-refused, passed-more}
@@ -33,25 +35,18 @@ module _ (k : ℕ) (b : ℤ) (ws : List ℤ) (cs : List ℕ) where
     terms-large h = rw (i, lt-leb (weightSizes ws) weightLimit h)
 
     module _ (h : weightSizes ws ≤ weightLimit) where
-      pub terms-beyond : inI64 (b +ℤ shiftBy (kindOf k) (weightRises ws)) ≡ false → refuse 8 ≡ termsChecked k b ws cs
+      pub terms-beyond : inI64 (b +ℤ shiftBy (readKind k) (weightRises ws)) ≡ false → refuse 8 ≡ termsChecked k b ws cs
       unfolding termsChecked
       terms-beyond f = rw (i, le-leb (weightSizes ws) weightLimit h, f)
 
-      pub terms-accepted : inI64 (b +ℤ shiftBy (kindOf k) (weightRises ws)) ≡ true → accept (length ws) ≡ termsChecked k b ws cs
+      pub terms-accepted : inI64 (b +ℤ shiftBy (readKind k) (weightRises ws)) ≡ true → accept (length ws) ≡ termsChecked k b ws cs
       unfolding termsChecked
       terms-accepted f = rw (i, le-leb (weightSizes ws) weightLimit h, f)
 
 -- an entry's terms are in two of the columns
 pub normal-of : (t : Table) (e : Entry) → normalIn t e ≡ normalOf e (t .weights) (t .literals)
-unfolding normalIn lineIn
-normal-of t e = ap (λ (c : Checked Line). andThen c normalLine) (by (sortOf (e .kind)))
-  where
-    by : (s : Sort) → lineBy s t e ≡ lineBy s (table [] [] [] [] (t .weights) (t .literals)) e
-    by remark = refl
-    by clause = refl
-    by unknown = refl
-    by (weighted k) = refl
-    by (cardinality k) = refl
+unfolding normalIn
+normal-of t e = ap (λ (c : Checked Line). andThen c normalLine) (line-by-terms t e)
 
 -- so what is said of a row over those two is said of it in the table
 pub checked-in : (t : Table) (e : Entry) (x : Checked ℕ) → x ≡ termCount (normalOf e (t .weights) (t .literals)) → x ≡ termCount (normalIn t e)

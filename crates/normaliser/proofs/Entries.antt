@@ -1,66 +1,39 @@
 -- What is said of one entry of a table: which numbers in the column of kinds are read, what is checked of its terms, and what its normal row holds.
 use mathlib.Core.Path.{_≡_, refl, sym, ap, _∙_}
+use mathlib.Core.Logic.{_⊎_}
 use mathlib.Core.Bool.{Bool, true, false, cond, _&&_}
 use mathlib.Core.List.{List, [], map}
 use Prim.Native.Nat.{ℕ, zero, suc, _+_, _≤_, _<_}
 use native.Mathlib.Omega.{arith}
 use native.Mathlib.Decide.{decLe}
-use borrow.Author.Tests.{ne-eqb, leb-true}
-use lib.Dec.{leb, eqb}
+use borrow.Author.Tests.{leb-true}
+use lib.Dec.{leb}
 use lib.IntN.{ℤ, pos, negℤ, _+ℤ_}
 use lib.ListN.{length, length-map}
 use Rattle.definitions.specs.Limits.{weightLimit, inI64}
 use Rattle.definitions.specs.Refusal.{Checked, refuse, accept}
-use Rattle.definitions.specs.Row.{atLeast, atMost, equal, Row, rowOf, Line, comment, row}
-use Rattle.definitions.specs.Table.{Table, table, Entry, termsAt, inColumn, clause, unknown, weighted, cardinality, sortOf, kindNumber, kindIn, countIn, andThen, rowIn, lineBy, lineIn}
+use Rattle.definitions.specs.Row.{Row, rowOf, Line, comment, row}
+use Rattle.definitions.specs.Table.{Table, table, Entry, termsAt, inColumn, sortOf, kindIn, countIn, andThen, rowIn, lineIn}
 use Rattle.definitions.specs.Normal.{moved, totalBy, normalTerm, rise, normal, normalLine, normalIn}
 use Rattle.columns.specs.Parts.{codesIndexed, weightSizes}
 use Rattle.columns.proofs.Terms.{weightsAt, literalsAt, terms-at, weights-at-count, literals-at-count, terms-at-count, indexed-at, sizes-at}
-use Rattle.normaliser.specs.Parts.{kindOf, weightRises, shiftBy, termsChecked, normalOf, termCount}
+use Rattle.columns.specs.Kinds.{readKind}
+use Rattle.columns.proofs.KindNumbers.{kind-other, read-kind, unread-kind}
+use Rattle.normaliser.specs.Parts.{weightRises, shiftBy, termsChecked, normalOf, termCount}
 use Rattle.normaliser.proofs.Rises.{rises-on, moved-is}
-
--- ---- the numbers in the column of kinds
-
-pub record ReadKind (k : ℕ) : Type 0 where
-  pub sort : sortOf k ≡ weighted (kindOf k)
-  pub number : kindNumber (kindOf k) ≡ k
-
-pub read-kind : (k : ℕ) → (k ≡ 0 → ⊥) → k ≤ 4 → ReadKind k
-unfolding sortOf kindOf
-read-kind zero h g = absurd (h refl)
-read-kind (suc zero) h g = record { sort = refl; number = refl }
-read-kind (suc (suc zero)) h g = record { sort = refl; number = refl }
-read-kind (suc (suc (suc zero))) h g = record { sort = refl; number = refl }
-read-kind (suc (suc (suc (suc zero)))) h g = record { sort = refl; number = refl }
-read-kind (suc (suc (suc (suc (suc k))))) h g = absurd (omega arith)
-
-unread-line : (k : ℕ) (t : Table) (e : Entry) → 4 < k → lineBy (sortOf k) t e ≡ refuse 11
-unfolding sortOf
-unread-line k t e h =
-    rw (ne-eqb k 0 (λ z. omega arith), ne-eqb k 1 (λ z. omega arith), ne-eqb k 2 (λ z. omega arith), ne-eqb k 3 (λ z. omega arith), ne-eqb k 4 (λ z. omega arith))
-    (by (eqb k 5) (eqb k 6) (eqb k 7) (eqb k 8))
-  where
-    by : (p q r s : Bool) → lineBy (cond p clause (cond q (cardinality atLeast) (cond r (cardinality atMost) (cond s (cardinality equal) unknown)))) t e ≡ refuse 11
-    by true q r s = refl
-    by false true r s = refl
-    by false false true s = refl
-    by false false false true = refl
-    by false false false false = refl
 
 -- ---- the shift of a bound
 
-pub shift-objective : (k n : ℕ) → k ≡ 4 → shiftBy (kindOf k) n ≡ negℤ (pos n)
-unfolding kindOf
-shift-objective k n e = rw e
+pub shift-constraint : (k n : ℕ) → 1 ≤ k → k ≤ 3 → shiftBy (readKind k) n ≡ pos n
+unfolding readKind
+shift-constraint zero n h g = absurd (omega arith)
+shift-constraint (suc zero) n h g = refl
+shift-constraint (suc (suc zero)) n h g = refl
+shift-constraint (suc (suc (suc zero))) n h g = refl
+shift-constraint (suc (suc (suc (suc k)))) n h g = absurd (omega arith)
 
-pub shift-constraint : (k n : ℕ) → (k ≡ 4 → ⊥) → shiftBy (kindOf k) n ≡ pos n
-unfolding kindOf
-shift-constraint k n h = rw (ne-eqb k 4 h) (by (eqb k 3) (eqb k 2))
-  where
-    by : (p q : Bool) → shiftBy (cond p equal (cond q atMost atLeast)) n ≡ pos n
-    by true q = refl
-    by false true = refl
-    by false false = refl
+pub shift-objective : (k n : ℕ) → (k < 1) ⊎ (3 < k) → shiftBy (readKind k) n ≡ negℤ (pos n)
+shift-objective k n h = rw (kind-other k h)
 
 -- ---- an entry by its kind
 
@@ -74,14 +47,14 @@ module _ (ws : List ℤ) (cs : List ℕ) (e : Entry) where
 
   pub of-unread : 4 < e .kind → normalOf e ws cs ≡ refuse 11
   unfolding normalIn lineIn
-  of-unread h = rw (unread-line (e .kind) on e h)
+  of-unread h = rw (unread-kind (e .kind) on e h)
 
   -- a row of a read kind
   module _ (h : e .kind ≡ 0 → ⊥) (g : e .kind ≤ 4) where
     abbrev raw : Row
-    raw = rowOf (kindOf (e .kind)) (e .bound) (termsAt on e)
+    raw = rowOf (readKind (e .kind)) (e .bound) (termsAt on e)
 
-    of-read : normalOf e ws cs ≡ andThen (rowIn (kindOf (e .kind)) on e) normalLine
+    of-read : normalOf e ws cs ≡ andThen (rowIn (readKind (e .kind)) on e) normalLine
     unfolding normalIn lineIn
     of-read = rw (read-kind (e .kind) h g .sort)
 
@@ -96,14 +69,14 @@ module _ (ws : List ℤ) (cs : List ℕ) (e : Entry) where
       rises = ap (totalBy rise) (terms-at on e) ∙ rises-on (weightsAt on e) (literalsAt on e) lengths
 
       -- the bound of the normal row
-      pub normal-bound : normal raw .bound ≡ e .bound +ℤ shiftBy (kindOf (e .kind)) (weightRises (weightsAt on e))
+      pub normal-bound : normal raw .bound ≡ e .bound +ℤ shiftBy (readKind (e .kind)) (weightRises (weightsAt on e))
       unfolding normal
-      normal-bound = ap (moved (kindOf (e .kind)) (e .bound)) rises ∙ moved-is (kindOf (e .kind)) (e .bound) (weightRises (weightsAt on e))
+      normal-bound = ap (moved (readKind (e .kind)) (e .bound)) rises ∙ moved-is (readKind (e .kind)) (e .bound) (weightRises (weightsAt on e))
 
-      of-inside : normalOf e ws cs ≡ cond (codesIndexed (literalsAt on e)) (cond (leb (weightSizes (weightsAt on e)) weightLimit && inI64 (e .bound +ℤ shiftBy (kindOf (e .kind)) (weightRises (weightsAt on e)))) (accept (row (normal raw))) (refuse 8)) (refuse 11)
+      of-inside : normalOf e ws cs ≡ cond (codesIndexed (literalsAt on e)) (cond (leb (weightSizes (weightsAt on e)) weightLimit && inI64 (e .bound +ℤ shiftBy (readKind (e .kind)) (weightRises (weightsAt on e)))) (accept (row (normal raw))) (refuse 8)) (refuse 11)
       of-inside = of-read ∙ rw (i, indexed-at on e i) (by (codesIndexed (literalsAt on e)))
         where
-          by : (b : Bool) → andThen (cond b (accept (row raw)) (refuse 11)) normalLine ≡ cond b (cond (leb (weightSizes (weightsAt on e)) weightLimit && inI64 (e .bound +ℤ shiftBy (kindOf (e .kind)) (weightRises (weightsAt on e)))) (accept (row (normal raw))) (refuse 8)) (refuse 11)
+          by : (b : Bool) → andThen (cond b (accept (row raw)) (refuse 11)) normalLine ≡ cond b (cond (leb (weightSizes (weightsAt on e)) weightLimit && inI64 (e .bound +ℤ shiftBy (readKind (e .kind)) (weightRises (weightsAt on e)))) (accept (row (normal raw))) (refuse 8)) (refuse 11)
           by true = rw (sizes-at on e i, normal-bound)
           by false = refl
 
@@ -112,7 +85,7 @@ module _ (ws : List ℤ) (cs : List ℕ) (e : Entry) where
       unfolding termsChecked normal
       check-inside =
           ap termCount of-inside
-          ∙ by (codesIndexed (literalsAt on e)) (leb (weightSizes (weightsAt on e)) weightLimit && inI64 (e .bound +ℤ shiftBy (kindOf (e .kind)) (weightRises (weightsAt on e))))
+          ∙ by (codesIndexed (literalsAt on e)) (leb (weightSizes (weightsAt on e)) weightLimit && inI64 (e .bound +ℤ shiftBy (readKind (e .kind)) (weightRises (weightsAt on e))))
         where
           count : length (map normalTerm (termsAt on e)) ≡ length (weightsAt on e)
           count = length-map (termsAt on e) normalTerm ∙ terms-at-count on e i ∙ sym (weights-at-count on e i)
@@ -148,8 +121,8 @@ module _ (ws : List ℤ) (cs : List ℕ) (e : Entry) (y : Line) (a : normalOf e 
     pub known : e .kind ≤ 4
     pub inside : inColumn (on ws cs e) e ≡ true
     pub small : weightSizes (weightsAt (on ws cs e) e) ≤ weightLimit
-    pub bounded : inI64 (e .bound +ℤ shiftBy (kindOf (e .kind)) (weightRises (weightsAt (on ws cs e) e))) ≡ true
-    pub is : y ≡ row (normal (rowOf (kindOf (e .kind)) (e .bound) (termsAt (on ws cs e) e)))
+    pub bounded : inI64 (e .bound +ℤ shiftBy (readKind (e .kind)) (weightRises (weightsAt (on ws cs e) e))) ≡ true
+    pub is : y ≡ row (normal (rowOf (readKind (e .kind)) (e .bound) (termsAt (on ws cs e) e)))
 
   pub accepted-row : (e .kind ≡ 0 → ⊥) → ReadRow
   accepted-row h = known (decLe (e .kind) 4)
@@ -158,7 +131,7 @@ module _ (ws : List ℤ) (cs : List ℕ) (e : Entry) (y : Line) (a : normalOf e 
       inside g false f = absurd (not-refused (of-outside ws cs e h g f) a)
       inside g true i =
           let p = passed (codesIndexed (literalsAt (on ws cs e) e)) _ 11 y (sym (of-inside ws cs e h g i) ∙ a) in
-          let q = passed (leb (weightSizes (weightsAt (on ws cs e) e)) weightLimit && inI64 (e .bound +ℤ shiftBy (kindOf (e .kind)) (weightRises (weightsAt (on ws cs e) e)))) _ 8 y (p .1) in
+          let q = passed (leb (weightSizes (weightsAt (on ws cs e) e)) weightLimit && inI64 (e .bound +ℤ shiftBy (readKind (e .kind)) (weightRises (weightsAt (on ws cs e) e)))) _ 8 y (p .1) in
           let t = both (leb (weightSizes (weightsAt (on ws cs e) e)) weightLimit) _ (q .0) in
           record {
             known = g;

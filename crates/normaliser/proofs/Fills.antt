@@ -13,7 +13,8 @@ use Rattle.definitions.specs.Row.{weightOf, literalOf, Line, termsOf}
 use Rattle.definitions.specs.Table.{Table, table, rowRoom, termRoom, Outcome, accepted, Entry, entries, termsOn, termsAt, allTerms, filled}
 use Rattle.definitions.specs.Normal.{normalTerm, normal, normalIn}
 use Rattle.columns.proofs.Terms.{entryAt, entries-from, entries-end, weightsAt, literalsAt, terms-at, weights-at-count, literals-at-count, terms-at-count}
-use Rattle.normaliser.specs.Parts.{kindOf, weightRises, shiftBy, normalOf}
+use Rattle.columns.specs.Kinds.{readKind}
+use Rattle.normaliser.specs.Parts.{weightRises, shiftBy, normalOf}
 use Rattle.normaliser.specs.Fill.{TermsFilled, TermsReady, RowReady, LineFilled, RowFilled, normalRows, Ready}
 use Rattle.normaliser.specs.declared.fill.Filled.{Filled}
 use Rattle.definitions.proofs.Columns.{joined-append, terms-snoc, rest-of, part-back, filled-none, Lengths, filled-lengths, filled-more}
@@ -50,7 +51,7 @@ module _ (ws : List ℤ) (cs : List ℕ) (e : Entry) (w₀ : List ℤ) (l₀ : L
 
     pub filled-row : (e .kind ≡ 0 → ⊥) → (w : List ℤ) (l : List ℕ)
         → TermsFilled (map normalTerm (termsOn (weightsAt (on ws cs e) e) (literalsAt (on ws cs e) e))) w₀ l₀ w l
-        → RowFilled (normalOf e ws cs) m w₀ l₀ (record { first = m; bound = e .bound +ℤ shiftBy (kindOf (e .kind)) (weightRises (weightsAt (on ws cs e) e)); terms = e .count }) w l
+        → RowFilled (normalOf e ws cs) m w₀ l₀ (record { first = m; bound = e .bound +ℤ shiftBy (readKind (e .kind)) (weightRises (weightsAt (on ws cs e) e)); terms = e .count }) w l
     unfolding normal
     filled-row h w l f y a =
         let g = accepted-row ws cs e y a h in

@@ -2,7 +2,7 @@
 use Prim.Native.Nat.{ℕ, suc, _+_}
 use mathlib.Core.Bool.{cond, _&&_}
 use mathlib.Core.List.{List, [], _∷_}
-use lib.Dec.{leb, eqb}
+use lib.Dec.{leb}
 use lib.ListN.{length}
 use lib.IntN.{ℤ, pos, negsuc, negℤ, _+ℤ_}
 use Rattle.definitions.specs.Limits.{weightLimit, inI64}
@@ -11,10 +11,7 @@ use Rattle.definitions.specs.Row.{Kind, atLeast, atMost, equal, objective, Line
 use Rattle.definitions.specs.Table.{table, Outcome, refused, accepted, Entry, Totals, totalsOf, allTerms}
 use Rattle.definitions.specs.Normal.{normalIn}
 use Rattle.columns.specs.Parts.{codesIndexed, weightSizes}
-
--- the kind of a row whose number in the column of kinds is a read row's
-unfoldable pub kindOf : ℕ → Kind
-kindOf n = cond (eqb n 4) objective (cond (eqb n 3) equal (cond (eqb n 2) atMost atLeast))
+use Rattle.columns.specs.Kinds.{readKind}
 
 -- -w of a negative weight w, 0 of any other
 abbrev pub riseOf : ℤ → ℕ
@@ -37,7 +34,7 @@ shiftBy objective n = negℤ (pos n)
 unfoldable pub termsChecked : ℕ → ℤ → List ℤ → List ℕ → Checked ℕ
 termsChecked k b ws cs =
     cond (codesIndexed cs)
-    (cond (leb (weightSizes ws) weightLimit && inI64 (b +ℤ shiftBy (kindOf k) (weightRises ws))) (accept (length ws)) (refuse 8))
+    (cond (leb (weightSizes ws) weightLimit && inI64 (b +ℤ shiftBy (readKind k) (weightRises ws))) (accept (length ws)) (refuse 8))
     (refuse 11)
 
 -- an entry of a table with these two columns of terms

@@ -5,12 +5,17 @@ ghost use Rattle.definitions.specs.Limits.{weightLimit};
 ghost use Rattle.definitions.specs.Refusal.{needed};
 ghost use Rattle.definitions.specs.Table.{table};
 ghost use Rattle.columns.specs.Parts.{weightSizes};
-ghost use Rattle.normaliser.specs.Parts.{kindOf, riseOf, weightRises, shiftBy, termsChecked, normalOf, termCount, totalsNeeded};
+ghost use Rattle.columns.specs.Kinds.{readKind};
+ghost use Rattle.normaliser.specs.Parts.{riseOf, weightRises, shiftBy, termsChecked, normalOf, termCount, totalsNeeded};
 ghost use Rattle.normaliser.specs.Fill.{normalRows};
 ghost use Rattle.normaliser.specs.Said.{saidRow, saidCounted};
 
 // The numbers of the read rows in the column of kinds are 0 to 4.
 pub(crate) const COMMENT: u8 = 0;
+
+const AT_LEAST: u8 = 1;
+
+const EQUAL: u8 = 3;
 
 const OBJECTIVE: u8 = 4;
 
@@ -60,10 +65,13 @@ fn rise_of(weights: &[i64]) -> u64
 // "A bound grows by -w, an objective's offset falls by -w": what is added to it.
 pub(crate) fn shift_of(kind: u8, weights: &[i64]) -> i64
     requires { ⌜ weightSizes (now weights) ≤ weightLimit ⌝ }
-    ensures { λ r. ⌜ r ≡ shiftBy (kindOf kind) (weightRises (now (weights .entry))) ⌝ }
+    ensures { λ r. ⌜ r ≡ shiftBy (readKind kind) (weightRises (now (weights .entry))) ⌝ }
 {
     let rise = rise_of(weights) as i64;
-    if kind == OBJECTIVE { -rise } else { rise }
+    match kind {
+        AT_LEAST..=EQUAL => rise,
+        _ => -rise,
+    }
 }
 
 // A row of a read kind, whose terms lie in their columns: the rest of 11, then 8.

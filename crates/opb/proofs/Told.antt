@@ -8,10 +8,9 @@ use Rattle.definitions.specs.Limits.{fileLimit}
 use Rattle.definitions.specs.Refusal.{refusal}
 use Rattle.definitions.specs.Walk.{Walked, broken, items}
 use Rattle.definitions.specs.Row.{Line}
-use Rattle.definitions.specs.Table.{Table, Outcome, refused, accepted, counted}
+use Rattle.definitions.specs.Table.{Table, refused, counted}
 use Rattle.definitions.specs.File.{linesOf, statements, file}
 use Rattle.definitions.specs.Write.{writing}
-use Rattle.definitions.specs.House.{listingTable}
 use Rattle.reader.specs.Brief.{totals}
 use Rattle.reader.specs.Said.{saidCounted, saidAnswer}
 use Rattle.reader.specs.Reads.{Reads}
@@ -20,12 +19,12 @@ use Rattle.reader.specs.declared.file.Answer as reader
 use Rattle.normaliser.specs.Said as normal
 use Rattle.normaliser.specs.Normalises.{Normalises}
 use Rattle.normaliser.specs.declared.Answer as normaliser
-use Rattle.writer.specs.Writes.{Writes, saidWritten, lengthOf}
+use Rattle.writer.specs.Writes.{Writes, saidWritten}
 use Rattle.writer.specs.declared.Written.{Written}
-use Rattle.house.specs.Said.{saidListed, textLength}
+use Rattle.house.specs.Said.{saidListed}
 use Rattle.house.specs.Lists.{Lists}
 use Rattle.house.specs.declared.Listed.{Listed}
-use Rattle.opb.specs.Answers.{tableAnswer, lengthAnswer, textAnswer}
+use Rattle.opb.specs.Answers.{tableAnswer, lengthAnswer}
 use Rattle.opb.specs.Calls.{firstAt, modeAt, countAnswer, ReadsFile, NormalisesTable, WritesLines, ListsTable}
 use Rattle.opb.specs.declared.answers.OpbTable.{OpbTable}
 use Rattle.opb.specs.declared.answers.OpbText.{OpbText}
@@ -57,19 +56,11 @@ normal-told t o o′ r a b normalises q e =
 
 -- ---- writing, listing
 
-length-told : (x : Outcome (List ℕ)) → lengthAnswer (lengthOf x) ≡ textAnswer x
-length-told (refused r) = refl
-length-told (accepted s) = refl
-
-listed-told : (x : Outcome (List ℕ)) → lengthAnswer (textLength x) ≡ textAnswer x
-listed-told (refused r) = refl
-listed-told (accepted s) = refl
-
 pub write-told : (first plain : ℕ) (t : Table) (text o o′ : List ℕ) (r : OpbText) (a b : Written) → Writes (modeAt first plain) t text o a o′ → a ≡ b → r ≡ lengthAnswer (saidWritten b)
     → WritesLines first plain t text o r o′
 write-told first plain t text o o′ r a b writes q e =
-    record { answer = e ∙ ap lengthAnswer (sym (ap saidWritten q) ∙ writes .answer) ∙ length-told (writing (modeAt first plain) t text (length o)); after = writes .after }
+    record { answer = e ∙ ap lengthAnswer (sym (ap saidWritten q) ∙ writes .answer); after = writes .after }
 
 pub list-told : (first rows : ℕ) (t : Table) (o o′ : List ℕ) (r : OpbText) (a b : Listed) → Lists first rows t o a o′ → a ≡ b → r ≡ lengthAnswer (saidListed b) → ListsTable first rows t o r o′
 list-told first rows t o o′ r a b lists q e =
-    record { answer = e ∙ ap lengthAnswer (sym (ap saidListed q) ∙ lists .answer) ∙ listed-told (listingTable first rows t (length o)); after = lists .after }
+    record { answer = e ∙ ap lengthAnswer (sym (ap saidListed q) ∙ lists .answer); after = lists .after }

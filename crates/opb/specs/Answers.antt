@@ -3,9 +3,9 @@
 use Prim.Native.Nat.{ℕ}
 use mathlib.Core.Bool.{Bool, cond}
 use mathlib.Core.List.{List}
-use lib.ListN.{length}
 use lib.IntN.{pos}
 use Rattle.definitions.specs.Table.{Outcome, refused, accepted, Totals}
+use Rattle.definitions.specs.Write.{lengthOf}
 use Rattle.definitions.specs.Evaluate.{Evaluated, constraint, goal}
 use Rattle.opb.specs.declared.answers.OpbTable.{OpbTable}
 use Rattle.opb.specs.declared.answers.OpbText.{OpbText}
@@ -24,8 +24,7 @@ lengthAnswer (refused r) = record { refusal = r .number; place = r .place; lengt
 lengthAnswer (accepted n) = record { refusal = 0; place = 0; length = n }
 
 abbrev pub textAnswer : Outcome (List ℕ) → OpbText
-textAnswer (refused r) = lengthAnswer (refused r)
-textAnswer (accepted s) = lengthAnswer (accepted (length s))
+textAnswer x = lengthAnswer (lengthOf x)
 
 -- ---- of a row under an assignment
 

@@ -1,6 +1,6 @@
 -- What the program counts is within its buffers: bytes that were read, and a place that a print answers.
 use mathlib.Core.Path.{_≡_, refl, ap, _∙_}
-use mathlib.Core.Bool.{Bool, true, false, cond}
+use mathlib.Core.Bool.{Bool, true, false}
 use mathlib.Core.List.{List}
 use Prim.Native.Nat.{ℕ, _+_, _-_, _≤_}
 use native.Mathlib.Omega.{arith}
@@ -9,7 +9,7 @@ use lib.Dec.{T, leb}
 use lib.IntN.{ℤ, pos, negsuc, natAbs}
 use lib.Signed.{ltZ, nonNeg}
 use lib.ListN.{length, take, drop, length-take, length-drop}
-use Rattle.definitions.specs.Refusal.{Checked, refuse, accept}
+use Rattle.definitions.specs.Refusal.{refuse, accept}
 use Rattle.definitions.specs.Output.{putAt}
 use Rattle.definitions.proofs.Puts.{placed-length, put-in-fits}
 use Rattle.libc.specs.Io.{Moved}

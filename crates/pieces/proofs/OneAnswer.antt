@@ -2,7 +2,6 @@
 use Prim.Native.Nat.{ℕ}
 use mathlib.Core.Path.{_≡_, refl, sym, ap, _∙_}
 use native.Mathlib.Omega.{arith}
-use Rattle.definitions.specs.Reader.{none, got}
 use Rattle.definitions.specs.Text.{Comparison, comparisonOf}
 use Rattle.pieces.specs.Said.{saidOperator, saidEnding, saidComparison, saidMin, saidComment, saidLiteral, saidTerm, saidNext}
 use Rattle.pieces.specs.declared.closing.OperatorRead.{OperatorRead}

@@ -1,6 +1,6 @@
 -- What each case of the answers says: 01's number and values, as the definitions give them.
 use Prim.Native.Nat.{ℕ, _+_}
-use lib.IntN.{ℤ, pos}
+use lib.IntN.{pos}
 use Rattle.definitions.specs.Reader.{Got, none, got}
 use Rattle.definitions.specs.Walk.{Step, stop, bad, item}
 use Rattle.definitions.specs.Row.{Term, term, Line, comment}

@@ -1,24 +1,23 @@
 -- What the two answers make together: the writer's says whether there is a text, the written part of the output is that text, and the reader's answers for it.
 use Prim.Native.Nat.{ℕ, _+_, _≤_}
 use mathlib.Core.Path.{_≡_, refl, sym, ap, _∙_}
-use mathlib.Core.List.{List, _++_}
+use mathlib.Core.List.{List}
 use native.Mathlib.Omega.{arith}
 use lib.ListN.{length, take, drop, length-append}
 use lib.Seq.{take-append-seam, length-take-le}
 use Rattle.definitions.specs.Lists.{over}
 use Rattle.definitions.specs.Refusal.{Refusal, refusal}
-use Rattle.definitions.specs.Table.{Table, Outcome, refused, accepted, totalsOf, counted, after}
-use Rattle.definitions.specs.File.{reading}
-use Rattle.definitions.specs.Write.{writing, outputAfter}
+use Rattle.definitions.specs.Table.{Table, Outcome, refused, accepted, totalsOf, after}
+use Rattle.definitions.specs.Write.{writing, outputAfter, lengthOf}
 use Rattle.definitions.specs.Back.{optionsOf}
 use Rattle.definitions.specs.declared.Mode.{Mode}
-use Rattle.definitions.proofs.ThereAndBack.{ThereAndBack, there-and-back}
+use Rattle.definitions.proofs.ThereAndBack.{there-and-back}
 use Rattle.reader.specs.Reads.{Reads}
 use Rattle.reader.specs.declared.file.Answer.the-variants as answer
-use Rattle.writer.specs.Writes.{Writes, saidWritten, lengthOf}
+use Rattle.writer.specs.Writes.{Writes, saidWritten}
 use Rattle.writer.specs.declared.Written.{Written}
 use Rattle.writer.specs.declared.Written.the-variants as written
-use Rattle.promise.specs.Returns.{back, readBack, returning, tablesAfter, Returns}
+use Rattle.promise.specs.Returns.{back, readBack, Returns}
 use Rattle.promise.specs.declared.Returned.the-variants.{NotWritten, NotRead, Back}
 
 refused-text : (x : Outcome (List ℕ)) (r : Refusal) → refused r ≡ lengthOf x → x ≡ refused r

@@ -1,15 +1,10 @@
 -- 01's P examples through the code: whatever the contracts of `parse_opb_data` and `write_opb_lines` allow as an answer is 01's answer, with what it leaves in what was lent.
-use Prim.Native.Nat.{ℕ}
-use mathlib.Core.Path.{_≡_, refl, sym, ap, _∙_}
+use mathlib.Core.Path.{_≡_}
 use mathlib.Core.List.{List, [], _∷_, map}
-use lib.ListN.{length}
-use native.Mathlib.Omega.{arith}
 use Rattle.definitions.specs.Lists.{AllOf}
-use Rattle.definitions.specs.Table.{Table, Outcome, counted, after}
-use Rattle.definitions.specs.Write.{outputAfter}
-use Rattle.definitions.specs.TableP.{Question, reads, writes, Answer, lines, text, answerTo, Example, tableP, roomy}
+use Rattle.definitions.specs.Table.{after}
+use Rattle.definitions.specs.TableP.{Question, reads, writes, answerTo, Example, tableP}
 use Rattle.definitions.proofs.TableP.{every-example}
-use Rattle.writer.specs.Writes.{lengthOf}
 use Rattle.promise.specs.TablePCode.{zeros, Answered}
 
 -- two lists that are equal are equal one by one

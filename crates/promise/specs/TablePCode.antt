@@ -1,18 +1,14 @@
 -- 01's P examples, asked of the functions themselves: an answer that a contract allows, with what it leaves in what was lent.
 use Prim.Native.Nat.{ℕ}
 use mathlib.Core.Path.{_≡_}
-use mathlib.Core.Bool.{Bool}
 use mathlib.Core.List.{List, [], _∷_}
-use lib.ListN.{length}
-use lib.IntN.{ℤ}
-use Rattle.definitions.specs.Row.{Line}
-use Rattle.definitions.specs.Table.{Table, table, Outcome, counted, after}
-use Rattle.definitions.specs.Write.{outputAfter}
+use Rattle.definitions.specs.Table.{Table, table, counted, after}
+use Rattle.definitions.specs.Write.{outputAfter, lengthOf}
 use Rattle.definitions.specs.TableP.{Question, reads, writes, Answer, lines, text, bytes, indexFrom, modeFrom, roomy}
 use Rattle.reader.specs.Said.{saidAnswer}
 use Rattle.reader.specs.Reads.{Reads}
 use Rattle.reader.specs.declared.file.Answer as reader
-use Rattle.writer.specs.Writes.{Writes, saidWritten, lengthOf}
+use Rattle.writer.specs.Writes.{Writes, saidWritten}
 use Rattle.writer.specs.declared.Written.{Written}
 
 -- an output of 100 bytes

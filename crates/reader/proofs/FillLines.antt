@@ -30,7 +30,7 @@ use Rattle.reader.specs.Fill.{stepTerms, linesIn, firstOfKind, TermsFit,
 use Rattle.reader.specs.declared.row.StatementRead.{StatementRead}
 use Rattle.reader.specs.declared.row.StatementRead.the-variants as read
 use Rattle.reader.proofs.row.StatementRead.{the-type}
-use Rattle.reader.proofs.Over.{over-length, over-set, part-filled}
+use Rattle.definitions.proofs.Columns.{over-length, over-set, part-filled}
 use Rattle.reader.proofs.Fills.{Prefix, at-prefix, prefix-length, never-broken, column-length, column-more}
 use Rattle.reader.proofs.Rows.{first-within}
 use Rattle.reader.proofs.Sums.{never}
@@ -128,7 +128,7 @@ module _ (o : Options) where
   at-first k [] l m e = never (cc)
   at-first k (c ∷ s) l m e = blanks-first k (c ∷ s) (statementBy (begins (classOf c)) o (c ∷ s)) l m (begun-first (begins (classOf c)) (c ∷ s)) e
 
-  statement-first : (s : List ℕ) (l : Line) (m : ℕ) → statement o s ≡ item l m → briefLine l .first ≤ length s
+  pub statement-first : (s : List ℕ) (l : Line) (m : ℕ) → statement o s ≡ item l m → briefLine l .first ≤ length s
   unfolding statement
   statement-first s l m e = omega (arith, at-first (blanks s) (drop (blanks s) s) l m e, length-drop (blanks s) s, blanks-within s)
 

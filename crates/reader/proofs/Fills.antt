@@ -21,7 +21,7 @@ use Rattle.pieces.specs.declared.term.NextTerm.{NextTerm}
 use Rattle.pieces.specs.declared.term.NextTerm.the-variants as next
 use Rattle.pieces.proofs.term.NextTerm.{the-type}
 use Rattle.reader.specs.Fill.{termsGot, TermsFilled, SumFits, SumFilled}
-use Rattle.reader.proofs.Over.{over-length, over-set}
+use Rattle.definitions.proofs.Columns.{over-length, over-set}
 use Rattle.reader.proofs.Sums.{never}
 
 -- ---- a column that holds f of each: as long as it was, and one more

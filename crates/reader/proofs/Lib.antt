@@ -2,9 +2,9 @@ pub mod Sums
 pub mod Rows
 pub mod Counts
 pub mod OneAnswer
-pub mod Over
 pub mod Fills
 pub mod FillRows
 pub mod FillLines
 pub mod Files
 pub mod OneTable
+pub mod FillTerms

@@ -1,4 +1,4 @@
--- The public entry has one possible answer for each input, and leaves one content in each column: two that its contract allows are equal.
+-- The public functions that fill columns, `parse_opb_data` and `fill_terms`, have one possible answer for each input, and leave one content in each column: two that a contract allows are equal.
 use mathlib.Core.Path.{_≡_, sym, ap, _∙_}
 use denote.Ref.{now}
 use Rattle.definitions.specs.Refusal.{Refusal, refusal}
@@ -7,7 +7,9 @@ use Rattle.reader.specs.Said.{saidAnswer}
 use Rattle.reader.specs.declared.file.Answer.{Answer}
 use Rattle.reader.specs.declared.file.Answer.the-variants.{Refused, Read}
 use Rattle.reader.proofs.Sums.{never}
+use Rattle.reader.proofs.FillTerms.{said-terms}
 use Rattle.reader.proofs.file.parse_opb_data.Reads as parse-opb-data
+use Rattle.reader.proofs.terms.fill_terms.Reads as fill-terms
 
 -- an answer is known by what it says
 pub said-answer : (r r' : Answer) → saidAnswer r ≡ saidAnswer r' → r ≡ r'
@@ -29,3 +31,8 @@ pub parse-opb-data-one : (κs : _) (a : _) (r r' : _) (s s' : _) → parse-opb-d
     × (table (now (s .1 .1 .0)) (now (s .1 .1 .1 .0)) (now (s .1 .1 .1 .1 .0)) (now (s .1 .1 .1 .1 .1 .0)) (now (s .1 .1 .1 .1 .1 .1 .0)) (now (s .1 .1 .1 .1 .1 .1 .1 .0))
     ≡ table (now (s' .1 .1 .0)) (now (s' .1 .1 .1 .0)) (now (s' .1 .1 .1 .1 .0)) (now (s' .1 .1 .1 .1 .1 .0)) (now (s' .1 .1 .1 .1 .1 .1 .0)) (now (s' .1 .1 .1 .1 .1 .1 .1 .0)))
 parse-opb-data-one κs a r r' s s' p q = (said-answer r r' (p .answer ∙ sym (q .answer)), p .after ∙ sym (q .after))
+
+pub fill-terms-one : (κs : _) (a : _) (r r' : _) (s s' : _) → fill-terms.Post κs a r s → fill-terms.Post κs a r' s'
+    → (r ≡ r') × (now (s .1 .1 .0) ≡ now (s' .1 .1 .0)) × (now (s .1 .1 .1 .0) ≡ now (s' .1 .1 .1 .0))
+fill-terms-one κs a r r' s s' p q =
+    (said-terms r r' (p .answer ∙ sym (q .answer)), p .filled .weights ∙ sym (q .filled .weights), p .filled .literals ∙ sym (q .filled .literals))

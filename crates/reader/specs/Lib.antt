@@ -3,3 +3,4 @@ pub mod Said
 pub mod Fitting
 pub mod Fill
 pub mod Reads
+pub mod FillsTerms

@@ -1,4 +1,5 @@
 -- What each case of the answers says: 01's number and values, as the definitions give them.
+use Prim.Native.Nat.{ℕ}
 use lib.IntN.{ℤ}
 use Rattle.definitions.specs.Refusal.{refusal, Checked, refuse, accept}
 use Rattle.definitions.specs.Reader.{Got, none, got}
@@ -17,6 +18,8 @@ use Rattle.reader.specs.declared.count.Counted.{Counted}
 use Rattle.reader.specs.declared.count.Counted.the-variants as count
 use Rattle.reader.specs.declared.file.Answer.{Answer}
 use Rattle.reader.specs.declared.file.Answer.the-variants as file
+use Rattle.reader.specs.declared.terms.FilledTerms.{FilledTerms}
+use Rattle.reader.specs.declared.terms.FilledTerms.the-variants as terms
 
 abbrev pub saidSum : SumRead → Got SumBrief
 saidSum (sum.Sum n m k) = got (sumBrief n m) k
@@ -43,3 +46,7 @@ saidCounted (count.Table n m) = accepted (totalsOf n m)
 abbrev pub saidAnswer : Answer → Outcome Totals
 saidAnswer (file.Refused e p) = refused (refusal e p)
 saidAnswer (file.Read n m) = accepted (totalsOf n m)
+
+abbrev pub saidTerms : FilledTerms → Outcome ℕ
+saidTerms (terms.Refused e p) = refused (refusal e p)
+saidTerms (terms.Terms n) = accepted n

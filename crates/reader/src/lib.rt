@@ -6,6 +6,7 @@ mod fill;
 mod row;
 mod statement;
 mod sum;
+mod terms;
 
 pub use count::Counted;
 pub use count::count_file;
@@ -16,3 +17,5 @@ pub use row::StatementRead;
 pub use statement::opb_data;
 pub use sum::SumRead;
 pub use sum::weighted_lit_sum;
+pub use terms::FilledTerms;
+pub use terms::fill_terms;

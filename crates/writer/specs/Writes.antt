@@ -5,7 +5,7 @@ use mathlib.Core.List.{List}
 use lib.ListN.{length}
 use Rattle.definitions.specs.Refusal.{refusal}
 use Rattle.definitions.specs.Table.{Table, Outcome, refused, accepted}
-use Rattle.definitions.specs.Write.{writing, outputAfter}
+use Rattle.definitions.specs.Write.{writing, lengthOf, outputAfter}
 use Rattle.definitions.specs.declared.Mode.{Mode}
 use Rattle.writer.specs.declared.Written.{Written}
 use Rattle.writer.specs.declared.Written.the-variants.{Refused, Wrote}
@@ -14,11 +14,6 @@ use Rattle.writer.specs.declared.Written.the-variants.{Refused, Wrote}
 abbrev pub saidWritten : Written → Outcome ℕ
 saidWritten (Refused n p) = refused (refusal n p)
 saidWritten (Wrote n) = accepted n
-
--- a text's length in place of the text
-abbrev pub lengthOf : Outcome (List ℕ) → Outcome ℕ
-lengthOf (refused r) = refused r
-lengthOf (accepted s) = accepted (length s)
 
 -- the rows of the table t, with the comments' text, into the output o: the answer, and the output after it
 pub record Writes (m : Mode) (t : Table) (text o : List ℕ) (r : Written) (o′ : List ℕ) : Type 0 where

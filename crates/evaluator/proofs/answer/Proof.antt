@@ -8,8 +8,8 @@ use mir.Syntax.{w64}
 use mir.Val.{SFits}
 use mir.Facts.{toZ-ofZ}
 use Rattle.definitions.specs.Table.{termsOn}
-use Rattle.evaluator.specs.Parts.{kindOf}
-use Rattle.evaluator.proofs.Relations.{kind-constraint, kind-other}
+use Rattle.columns.specs.Kinds.{readKind}
+use Rattle.columns.proofs.KindNumbers.{kind-constraint, kind-other}
 use Rattle.evaluator.proofs.Answers.{constraint-found, objective-found}
 use Rattle.evaluator.proofs.answer.Statement.{statement}
 use Rattle.evaluator.proofs.answer.Tie as tie
@@ -33,7 +33,7 @@ returns c =
     let s = k .before .before .before .before in
     let f : SFits w64 (z .result) = record { sfits = z .ok } in
     rw (toZ-ofZ f)
-    (constraint-found (kindOf (s .args .kind)) (s .args .bound) (termsOn (now (s .args .weights)) (now (s .args .literals))) (now (s .args .words))
+    (constraint-found (readKind (s .args .kind)) (s .args .bound) (termsOn (now (s .args .weights)) (now (s .args .literals))) (now (s .args .words))
     (z .result) (k .ones-of .result) (s .args .row) (z .ensures) (k .ones-of .ensures)
     (c .holds .result) (c .holds .ensures ∙ simp (toZ-ofZ f, toZ-ofZ (s .fits .bound))) (kind-constraint (s .args .kind) (omega arith) (omega arith)))
 
@@ -45,7 +45,7 @@ returns-2 c =
     let f : SFits w64 (z .result) = record { sfits = z .ok } in
     c .objective .ensures
     ∙ simp (toZ-ofZ f, toZ-ofZ (s .fits .bound))
-    (objective-found (kindOf (s .args .kind)) (s .args .bound) (termsOn (now (s .args .weights)) (now (s .args .literals))) (now (s .args .words))
+    (objective-found (readKind (s .args .kind)) (s .args .bound) (termsOn (now (s .args .weights)) (now (s .args .literals))) (now (s .args .words))
     (z .result) (k .ones-of .result) (s .args .row) (z .ensures) (k .ones-of .ensures)
     (kind-other (s .args .kind) (⊎-elim (λ w. inl (omega arith)) (λ w. inr (omega arith)) (c .before .if1 .came))))
 

@@ -1,6 +1,7 @@
 -- `evaluator::holds` meets its contract: each kind's test on the numbers is the definition's. Assumes nothing.
 use mir.Facts.{toZ-ofZ}
-use Rattle.evaluator.proofs.Relations.{kind-at-least, kind-at-most, kind-equal, kind-objective, same-test}
+use Rattle.columns.proofs.KindNumbers.{kind-at-least, kind-at-most, kind-equal, kind-objective}
+use Rattle.evaluator.proofs.Relations.{same-test}
 use Rattle.evaluator.proofs.holds.Statement.{statement}
 use Rattle.evaluator.proofs.holds.Tie as tie
 

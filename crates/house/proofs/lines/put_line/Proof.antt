@@ -13,13 +13,14 @@ use Rattle.definitions.specs.Row.{row, rowOf}
 use Rattle.definitions.specs.Table.{termsOn}
 use Rattle.definitions.specs.House.{termFields, houseLine}
 use Rattle.definitions.proofs.Puts.{Puts, front-room, rest-room, puts-as, puts-then, puts-byte, puts-length}
-use Rattle.house.specs.Words.{kindOf, wordField}
+use Rattle.columns.specs.Kinds.{readKind}
+use Rattle.house.specs.Words.{wordField}
 use Rattle.house.proofs.Words.{line-words}
 use Rattle.house.proofs.lines.put_line.Statement.{statement}
 use Rattle.house.proofs.lines.put_line.Tie as tie
 
 abbrev word : tie.Start → List ℕ
-word s = wordField (kindOf (s .args .kind))
+word s = wordField (readKind (s .args .kind))
 
 abbrev bound : tie.Start → List ℕ
 bound s = integerText (s .args .bound)
@@ -30,8 +31,8 @@ terms s = joined (termFields (s .args .first)) (termsOn (now (s .args .weights))
 abbrev whole : tie.Start → List ℕ
 whole s = word s ++ (bound s ++ (terms s ++ (lf ∷ [])))
 
-words : (s : tie.Start) → houseLine (s .args .first) (row (rowOf (kindOf (s .args .kind)) (s .args .bound) (termsOn (now (s .args .weights)) (now (s .args .literals))))) ≡ whole s
-words s = line-words (s .args .first) (kindOf (s .args .kind)) (s .args .bound) (termsOn (now (s .args .weights)) (now (s .args .literals)))
+words : (s : tie.Start) → houseLine (s .args .first) (row (rowOf (readKind (s .args .kind)) (s .args .bound) (termsOn (now (s .args .weights)) (now (s .args .literals))))) ≡ whole s
+words s = line-words (s .args .first) (readKind (s .args .kind)) (s .args .bound) (termsOn (now (s .args .weights)) (now (s .args .literals)))
 
 room : (s : tie.Start) → s .args .at + length (whole s) ≤ length (now (s .args .out))
 room s = rw (words s) at (s .pre .room)

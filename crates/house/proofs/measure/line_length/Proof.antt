@@ -11,7 +11,7 @@ use Rattle.definitions.specs.Bytes.{tab}
 use Rattle.definitions.specs.Number.{integerText}
 use Rattle.definitions.specs.House.{kindWord}
 use Rattle.definitions.proofs.Puts.{number-length-most}
-use Rattle.house.specs.Words.{kindOf}
+use Rattle.columns.specs.Kinds.{readKind}
 use Rattle.house.proofs.Words.{word-most}
 use borrow.Author.Needs.{needs}
 use Rattle.house.proofs.measure.line_length.Statement.{statement}
@@ -25,8 +25,8 @@ module _ (c : tie.After-number-length) where
   bound-length =
       (c .number-length .ensures ∙ ap (λ (z : ℤ). length (integerText z)) (toZ-ofZ (start .fits .bound)), number-length-most (start .args .bound) (start .fits .bound))
 
-  word-length : (c .before .word-length .result ≡ length (kindWord (kindOf (start .args .kind)))) × (length (kindWord (kindOf (start .args .kind))) ≤ 3)
-  word-length = (c .before .word-length .ensures, word-most (kindOf (start .args .kind)))
+  word-length : (c .before .word-length .result ≡ length (kindWord (readKind (start .args .kind)))) × (length (kindWord (readKind (start .args .kind))) ≤ 3)
+  word-length = (c .before .word-length .ensures, word-most (readKind (start .args .kind)))
 
 word-length-requires : tie.Need-word-length-requires
 word-length-requires c κs = search needs
@@ -44,7 +44,7 @@ add-needed-requires : tie.Need-add-needed-requires
 add-needed-requires c κs = search needs
 
 returns : tie.Need-returns
-returns c = let d = c .before in c .add-needed .ensures ∙ ap (λ (n : ℕ). needed (d .before .before .args .terms + n)) (omega (arith, bound-length d, word-length d, length-append (kindWord (kindOf (d .before .before .args .kind))) (tab ∷ [])))
+returns c = let d = c .before in c .add-needed .ensures ∙ ap (λ (n : ℕ). needed (d .before .before .args .terms + n)) (omega (arith, bound-length d, word-length d, length-append (kindWord (readKind (d .before .before .args .kind))) (tab ∷ [])))
 
 pub line-length-spec : {M : Type 1} → statement M
 line-length-spec =

@@ -12,7 +12,8 @@ use mir.Val.{SFits}
 use mir.Facts.{toZ-ofZ}
 use Rattle.definitions.specs.Limits.{weightLimit, inI64}
 use Rattle.columns.specs.Parts.{codesIndexed, weightSizes}
-use Rattle.normaliser.specs.Parts.{kindOf, weightRises, shiftBy}
+use Rattle.columns.specs.Kinds.{readKind}
+use Rattle.normaliser.specs.Parts.{weightRises, shiftBy}
 use Rattle.normaliser.proofs.Checks.{terms-unindexed, terms-large, terms-beyond, terms-accepted}
 use Rattle.normaliser.proofs.check.check_terms.Statement.{statement}
 use Rattle.normaliser.proofs.check.check_terms.Tie as tie
@@ -33,7 +34,7 @@ small c = omega (arith, c .before .sizes-of .ensures)
 
 -- what is said of the bound
 tested : (c : tie.After-sum-fits)
-    → c .sum-fits .result ≡ inI64 (start-2 (c .before .before) .args .bound +ℤ shiftBy (kindOf (start-2 (c .before .before) .args .kind)) (weightRises (now (start-2 (c .before .before) .args .weights))))
+    → c .sum-fits .result ≡ inI64 (start-2 (c .before .before) .args .bound +ℤ shiftBy (readKind (start-2 (c .before .before) .args .kind)) (weightRises (now (start-2 (c .before .before) .args .weights))))
 tested c =
     let s = start-2 (c .before .before) in
     let f : SFits w64 (c .before .shift-of .result) = record { sfits = c .before .shift-of .ok } in

@@ -1,6 +1,7 @@
 -- `normaliser::check::shift_of` meets its contract: the rise is at most the absolute weights together, so it and its opposite are in 64 signed bits.
 -- Assumes nothing.
 use mathlib.Core.Path.{sym, ap, _∙_}
+use mathlib.Core.Logic.{inl, inr, ⊎-elim}
 use Prim.Native.Nat.{ℕ, _<_, _^_}
 use native.Mathlib.Omega.{arith}
 use borrow.Author.Needs.{needs}
@@ -32,14 +33,14 @@ sub-result c = rw (neg-is (c .before .rise-of .result) (small (c .before))) (neg
 
 returns : tie.Need-returns
 returns c =
-    let d = c .before in
-    rw (neg-is (d .rise-of .result) (small d), toZ-ofZ (negative d))
-    (ap (λ (n : ℕ). negℤ (pos n)) (d .rise-of .ensures) ∙ sym (shift-objective (d .before .args .kind) _ (c .if1 .taken)))
+    let d = c .before .before in
+    toZ-pos w64 (small d) ∙ ap pos (d .rise-of .ensures) ∙ sym (shift-constraint (d .before .args .kind) _ (omega arith) (omega arith))
 
 returns-2 : tie.Need-returns-2
 returns-2 c =
     let d = c .before in
-    toZ-pos w64 (small d) ∙ ap pos (d .rise-of .ensures) ∙ sym (shift-constraint (d .before .args .kind) _ (c .if1 .left))
+    rw (neg-is (d .rise-of .result) (small d), toZ-ofZ (negative d))
+    (ap (λ (n : ℕ). negℤ (pos n)) (d .rise-of .ensures) ∙ sym (shift-objective (d .before .args .kind) _ (⊎-elim (λ w. inl (omega arith)) (λ w. inr (omega arith)) (c .if1 .came))))
 
 pub shift-of-spec : {M : Type 1} → statement M
 shift-of-spec = tie.close (tie.spec rise-of-requires cast-rise sub-result returns returns-2)

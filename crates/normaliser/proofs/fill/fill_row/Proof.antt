@@ -13,7 +13,8 @@ use mir.Val.{SFits, toZ, ofZ}
 use mir.Facts.{toZ-ofZ}
 use Rattle.definitions.specs.Table.{Entry}
 use Rattle.definitions.proofs.Whole.{true-in}
-use Rattle.normaliser.specs.Parts.{kindOf, weightRises, shiftBy}
+use Rattle.columns.specs.Kinds.{readKind}
+use Rattle.normaliser.specs.Parts.{weightRises, shiftBy}
 use Rattle.normaliser.specs.Fill.{TermsReady}
 use Rattle.normaliser.proofs.Entries.{accepted-row}
 use Rattle.normaliser.proofs.Fills.{row-within, row-ready, filled-comment, filled-row}
@@ -48,13 +49,13 @@ ready c =
 
 -- the bound, moved
 moves : (c : tie.After-shift-of) → toZ w64 (ofZ w64 (start (back (c .before .before)) .args .bound)) +ℤ toZ w64 (ofZ w64 (c .shift-of .result))
-    ≡ start (back (c .before .before)) .args .bound +ℤ shiftBy (kindOf (start (back (c .before .before)) .args .kind)) (weightRises (weightsPart (start (back (c .before .before)))))
+    ≡ start (back (c .before .before)) .args .bound +ℤ shiftBy (readKind (start (back (c .before .before)) .args .kind)) (weightRises (weightsPart (start (back (c .before .before)))))
 moves c =
     let s = start (back (c .before .before)) in
     let f : SFits w64 (c .shift-of .result) = record { sfits = c .shift-of .ok } in
     rw (toZ-ofZ (s .fits .bound), toZ-ofZ f, c .shift-of .ensures)
 
-fits : (c : tie.After-shift-of) → SFits w64 (start (back (c .before .before)) .args .bound +ℤ shiftBy (kindOf (start (back (c .before .before)) .args .kind)) (weightRises (weightsPart (start (back (c .before .before))))))
+fits : (c : tie.After-shift-of) → SFits w64 (start (back (c .before .before)) .args .bound +ℤ shiftBy (readKind (start (back (c .before .before)) .args .kind)) (weightRises (weightsPart (start (back (c .before .before))))))
 fits c =
     let d = back (c .before .before) in
     let s = start d in

@@ -18,7 +18,7 @@ use Rattle.definitions.proofs.Parts.{part-is}
 use Rattle.reader.specs.Brief.{lineBrief}
 use Rattle.reader.specs.Said.{saidStatement}
 use Rattle.reader.specs.Fill.{LineFilled}
-use Rattle.reader.proofs.Over.{rest-of}
+use Rattle.definitions.proofs.Columns.{rest-of}
 use Rattle.reader.proofs.FillLines.{Fills, fills-start, Lengths, fills-lengths, fills-asks, fills-done, LineMoves, fills-moves, fills-more}
 use Rattle.reader.proofs.fill.fill_file.Statement.{statement}
 use Rattle.reader.proofs.fill.fill_file.Tie as tie

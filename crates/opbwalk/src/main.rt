@@ -1,0 +1,253 @@
+// The listing program of 01, "Examples on each side", with a file that is walked: an OPB file on standard input, its house lines on standard output, the same as opblist's. It keeps no table: one walk
+// of steps checks and counts (`walker::count_steps`), a second prints each statement's line as it is met. What cannot be read or printed is said on standard error.
+use definitions::Options;
+use house::Listed;
+use libc::STDERR_FILENO;
+use libc::STDIN_FILENO;
+use libc::STDOUT_FILENO;
+use numbers::Put;
+use reader::Counted;
+use reader::FilledTerms;
+use walker::Stepped;
+ghost use lib.ListN.{length};
+ghost use Rattle.opbwalk.specs.Within.{InputWithin, PutWithin};
+
+// "up to 4,096 rows and 8,192 terms"
+const ROWS: usize = 4096;
+
+const TERMS: usize = 8192;
+
+// How many bytes were put into a buffer, fewer than it holds only at the end of the input; or a read failed.
+enum Input {
+    Bytes(usize),
+    Failed,
+}
+
+fn read_input(buffer: &mut [u8]) -> Input
+    ensures { λ r. ⌜ InputWithin r (length (now (buffer .exit))) ⌝ }
+{
+    let mut done: usize = 0;
+    while done < buffer.len() {
+        let got = libc::read(STDIN_FILENO, &mut buffer[done..]);
+        if got < 0 {
+            return Input::Failed;
+        }
+        let n = got as usize;
+        if n == 0 {
+            return Input::Bytes(done);
+        }
+        done += n;
+    }
+    Input::Bytes(done)
+}
+
+fn say(text: &[u8]) {
+    io::write_all(STDERR_FILENO, text);
+}
+
+// Whether all of it was printed.
+fn print(text: &[u8]) -> bool {
+    if io::write_all(STDOUT_FILENO, text) {
+        return true;
+    }
+    say(b"opbwalk: standard output takes no more\n");
+    false
+}
+
+// What was put into `out`.
+fn print_put(put: Put, out: &[u8]) -> bool
+    requires { ⌜ PutWithin put (length (now out)) ⌝ }
+{
+    match put {
+        Put::Done(n) => print(&out[..n]),
+        Put::Full => {
+            say(b"opbwalk: the line does not fit the output buffer\n");
+            false
+        }
+    }
+}
+
+fn refuse(number: u8, place: usize) {
+    let mut out = [0u8; 33];
+    let put = house::list_refusal(number, place as u64, &mut out);
+    print_put(put, &out);
+}
+
+// "The first line is rows, terms, first index."
+fn put_head(rows: u64, terms: u64, out: &mut [u8]) -> Put
+    ensures { λ r. ⌜ PutWithin r (length (now (out .exit))) ⌝ }
+{
+    let Put::Done(a) = numbers::print_text(b"opb\t", out, 0) else {
+        return Put::Full;
+    };
+    let Put::Done(b) = numbers::print_count(rows, out, a) else {
+        return Put::Full;
+    };
+    let Put::Done(c) = numbers::print_text(b"\t", out, b) else {
+        return Put::Full;
+    };
+    let Put::Done(d) = numbers::print_count(terms, out, c) else {
+        return Put::Full;
+    };
+    numbers::print_text(b"\t1\n", out, d)
+}
+
+fn print_head(rows: usize, terms: usize) -> bool {
+    let mut out = [0u8; 48];
+    let put = put_head(rows as u64, terms as u64, &mut out);
+    print_put(put, &out)
+}
+
+// A comment's count is that of its bytes.
+fn terms_of(kind: u8, count: usize) -> usize {
+    if kind == 0 { 0 } else { count }
+}
+
+// The head of a table of one row: `opb`, 1, so many terms, 1, parted by tabs, and an LF.
+fn head_length(terms: usize) -> usize {
+    9 + numbers::count_length(terms as u64)
+}
+
+// The line of one row, whose terms stand at the front of the columns: that of a table of one row, without the head.
+fn print_row(
+    kind: u8,
+    count: usize,
+    bound: i64,
+    weights: &[i64],
+    literals: &[u32],
+    out: &mut [u8],
+) -> bool {
+    let kinds = [kind; 1];
+    let firsts = [0usize; 1];
+    let counts = [count; 1];
+    let bounds = [bound; 1];
+    match house::list_table(
+        &kinds,
+        &firsts,
+        &counts,
+        &bounds,
+        weights,
+        literals,
+        1,
+        1,
+        out,
+    ) {
+        Listed::Refused {
+            number: _,
+            place: _,
+        } => {
+            say(b"opbwalk: the line does not fit the output buffer\n");
+            false
+        }
+        Listed::Listed(n) => print_part(out, head_length(terms_of(kind, count)), n),
+    }
+}
+
+// The bytes from `start` to `end`, where they are that.
+fn print_part(out: &[u8], start: usize, end: usize) -> bool {
+    if start <= end && end <= out.len() {
+        return print(&out[start..end]);
+    }
+    say(b"opbwalk: a line without its head\n");
+    false
+}
+
+// One statement, as the walk met it at the offset.
+fn print_statement(
+    file: &[u8],
+    at: usize,
+    kind: u8,
+    count: usize,
+    bound: i64,
+    weights: &mut [i64],
+    literals: &mut [u32],
+    out: &mut [u8],
+) -> bool {
+    let options = Options { first: 1 };
+    match walker::fill_at(file, options, at, weights, literals) {
+        FilledTerms::Refused {
+            number: _,
+            place: _,
+        } => {
+            say(b"opbwalk: the terms do not fit their columns\n");
+            false
+        }
+        FilledTerms::Terms(_) => print_row(kind, count, bound, weights, literals, out),
+    }
+}
+
+// The second walk, over a file that the first has accepted.
+fn print_statements(file: &[u8], weights: &mut [i64], literals: &mut [u32], out: &mut [u8]) {
+    let options = Options { first: 1 };
+    let mut at: usize = 0;
+    loop {
+        let Stepped::Line {
+            kind,
+            first: _,
+            count,
+            bound,
+            next,
+        } = walker::statement_at(file, options, at)
+        else {
+            return;
+        };
+        if !print_statement(file, at, kind, count, bound, weights, literals, out) {
+            return;
+        }
+        at = next;
+    }
+}
+
+// Columns and output for one statement; it may be as long as the file.
+fn list(file: &[u8]) {
+    let mut weights = [0i64; 8192];
+    let mut literals = [0u32; 8192];
+    let mut out = [0u8; 380976];
+    print_statements(file, &mut weights, &mut literals, &mut out);
+}
+
+// "9, then 10, once the whole file has read well"
+fn show(file: &[u8]) {
+    let options = Options { first: 1 };
+    match walker::count_steps(file, options) {
+        Counted::Refused { number, place } => refuse(number, place),
+        Counted::Table { rows, terms } => {
+            if rows > ROWS {
+                refuse(9, rows);
+                return;
+            }
+            if terms > TERMS {
+                refuse(10, terms);
+                return;
+            }
+            if print_head(rows, terms) {
+                list(file);
+            }
+        }
+    }
+}
+
+// Whether a byte follows those that were read.
+fn follows() -> Input {
+    let mut one = [0u8; 1];
+    read_input(&mut one)
+}
+
+fn main() {
+    let mut input = [0; 65536];
+    let Input::Bytes(n) = read_input(&mut input) else {
+        say(b"opbwalk: standard input cannot be read\n");
+        return;
+    };
+    if n == 65536 {
+        let Input::Bytes(more) = follows() else {
+            say(b"opbwalk: standard input cannot be read\n");
+            return;
+        };
+        if more > 0 {
+            refuse(1, 0);
+            return;
+        }
+    }
+    show(&input[..n]);
+}

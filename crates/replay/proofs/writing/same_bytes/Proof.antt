@@ -1,0 +1,54 @@
+-- `same_bytes` is safe and ends: each turn leaves one byte fewer.
+use Prim.Native.Nat.{_-_}
+use borrow.Author.Needs.{needs}
+use Rattle.replay.proofs.writing.same_bytes.Statement.{statement}
+use Rattle.replay.proofs.writing.same_bytes.Tie as tie
+
+abbrev Inv-loop : tie.InvT-loop
+Inv-loop n wanted ours k₀ k = Unit {0}
+
+abbrev μ-loop : tie.MeasureT-loop
+μ-loop n wanted ours k₀ k = n - k
+
+loop-holds : tie.Need-loop-holds Inv-loop μ-loop
+loop-holds c = search needs
+
+returns : tie.Need-returns Inv-loop μ-loop
+returns c = search needs
+
+element-copy-out-if2 : tie.Need-element-copy-out-if2 Inv-loop μ-loop
+element-copy-out-if2 c = search needs
+
+element-copy-out-if2-2 : tie.Need-element-copy-out-if2-2 Inv-loop μ-loop
+element-copy-out-if2-2 c = search needs
+
+returns-2 : tie.Need-returns-2 Inv-loop μ-loop
+returns-2 c = search needs
+
+add-k : tie.Need-add-k Inv-loop μ-loop
+add-k c = search needs
+
+loop-less : tie.Need-loop-less Inv-loop μ-loop
+loop-less c = search needs
+
+loop-again : tie.Need-loop-again Inv-loop μ-loop
+loop-again c = search needs
+
+returns-3 : tie.Need-returns-3 Inv-loop μ-loop
+returns-3 c = search needs
+
+pub same-bytes-spec : {M : Type 1} → statement M
+same-bytes-spec =
+    tie.close
+    (tie.spec
+    Inv-loop
+    μ-loop
+    loop-holds
+    returns
+    element-copy-out-if2
+    element-copy-out-if2-2
+    returns-2
+    add-k
+    loop-less
+    loop-again
+    returns-3)

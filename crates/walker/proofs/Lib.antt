@@ -1,0 +1,4 @@
+pub mod Stepping
+pub mod OneAnswer
+pub mod Holding
+pub mod Tallies
