@@ -2,15 +2,18 @@
 use mathlib.Core.Path.{_≡_, refl, sym, _∙_}
 use mathlib.Core.Bool.{Bool, true, false}
 use mathlib.Core.List.{List, [], _∷_, _++_, append-assoc, append-nil}
+use mathlib.Core.Logic.{inl, inr}
 use Prim.Native.Nat.{ℕ, suc, _+_, _-_, _*_, _/_, _≤_, _<_, min}
 use native.Mathlib.Omega.{arith}
 use native.Mathlib.Numerals.{add-one}
-use lib.Dec.{lit<}
+use lib.Dec.{lit<, eqb}
 use lib.ListN.{length, getD, take, drop, drop-of-length-le, length-drop}
 use lib.Seq.{drop-cons, take-suc, length-take-le, take-all}
+use types.Run.{OneOf}
+use Rattle.definitions.specs.Bytes.{plus, minus}
 use Rattle.definitions.specs.Reader.{none, got}
-use Rattle.definitions.specs.Number.{leading, valueOn, value, signed, ended}
-use Rattle.definitions.proofs.Numbers.{leading-digit, leading-low, leading-high, leading-length, value-snoc, most, signed-within, signed-beyond, ended-none, ended-beyond, ended-got}
+use Rattle.definitions.specs.Number.{leading, valueOn, value, signed, ended, number}
+use Rattle.definitions.proofs.Numbers.{leading-digit, leading-low, leading-high, leading-length, value-snoc, most, signed-within, signed-beyond, number-minus, number-plus, ended-none, ended-beyond, ended-got}
 use Rattle.numbers.specs.declared.Run.{Run}
 use Rattle.numbers.specs.Read.{cap, runOf}
 
@@ -89,6 +92,11 @@ module _ (negative : Bool) (k : ℕ) (s : List ℕ) (r : Run) (e : r ≡ runOf s
   run-got n h =
       let v : r .size ≡ value (leading s) = omega (arith, sized, most-below-cap negative) in
       rw (v, counted) (sym (ended-got negative k (leading s) (λ q. n (counted ∙ q)) (signed-within negative _ (omega arith))))
+
+-- ---- a number that begins with a sign of either kind
+pub number-behind-sign : (s : List ℕ) → 0 < length s → OneOf (plus ∷ minus ∷ []) (getD s 0 0) → number s ≡ ended (eqb (getD s 0 0) minus) 1 (leading (drop 1 s))
+number-behind-sign s h (inl e) = number-plus s h e ∙ rw e
+number-behind-sign s h (inr e) = number-minus s h e ∙ rw e
 
 -- the part from 1 on, as the code lends it
 pub rest-is : (s : List ℕ) → take (length s - 1) (drop 1 s) ≡ drop 1 s

@@ -98,9 +98,9 @@ pub fn read_number(s: &[u8]) -> NumberRead
     if s.len() == 0 {
         return NumberRead::Missing;
     }
-    match s[0] {
-        b'-' => read_signed(true, 1, &s[1..]),
-        b'+' => read_signed(false, 1, &s[1..]),
+    let b = s[0];
+    match b {
+        b'+' | b'-' => read_signed(b == b'-', 1, &s[1..]),
         _ => read_signed(false, 0, s),
     }
 }
@@ -119,14 +119,19 @@ pub fn magnitude(z: i64) -> u64
     }
 }
 
+// How many powers of ten are at most m, found without a division.
 pub fn count_length(m: u64) -> usize
     ensures { λ r. ⌜ r ≡ length (decimal m) ⌝ }
 {
     let mut n: usize = 1;
-    let mut x = m;
-    while x >= 10 {
-        x = x / 10;
+    let mut power: u64 = 10;
+    while power <= m {
         n += 1;
+        // The next power is beyond 64 bits.
+        if n == 20 {
+            return n;
+        }
+        power = power * 10;
     }
     n
 }

@@ -1,28 +1,26 @@
--- What the second walk has filled so far of a sum: the loop invariant of `fill_sum` as a record, and what a term adds to it. Before that, what holds of any walk and of any column.
-use Prim.Native.Nat.{ℕ, _+_, _≤_, _<_}
+-- What the walk over a sum has counted and filled so far: the loop invariant of `walk_sum` as a record, and what a term adds to it. Before that, what holds of any walk and of any column.
+use Prim.Native.Nat.{ℕ, _+_, _≤_, _<_, min}
 use mathlib.Core.Path.{_≡_, refl, sym, ap, _∙_}
+use mathlib.Core.Bool.{Bool, true, false, cond}
 use mathlib.Core.List.{List, [], _∷_, _++_, map, map-append}
-use mathlib.Core.Logic.{inl, inr}
-use types.Run.{OneOf}
-use denote.Enum.Declared.{tagOf}
 use native.Mathlib.Omega.{arith}
-use lib.ListN.{length, drop, set, length-append, length-map}
-use lib.IntN.{ℤ}
+use borrow.Author.Tests.{lt-ltb, le-ltb}
+use lib.Dec.{ltb}
+use lib.ListN.{length, drop, set, length-append, length-map, length-set}
+use lib.IntN.{ℤ, natAbs}
 use Rattle.definitions.specs.Lists.{over}
-use Rattle.definitions.specs.Reader.{Got, got}
+use Rattle.definitions.specs.Reader.{Got, none, got}
 use Rattle.definitions.specs.Walk.{Step, stop, bad, item, Walked, broken, items, walk, all, anywhere}
 use Rattle.definitions.specs.Row.{Term, weightOf, literalOf}
 use Rattle.definitions.specs.Text.{termStep, asGot, sum}
 use Rattle.definitions.specs.declared.Options.{Options}
 use Rattle.definitions.proofs.Walks.{At, at-start, at-stop, at-bad, at-item, onto}
 use Rattle.definitions.proofs.Statements.{term-moves}
-use Rattle.pieces.specs.Said.{saidNext}
-use Rattle.pieces.specs.declared.term.NextTerm.{NextTerm}
-use Rattle.pieces.specs.declared.term.NextTerm.the-variants as next
-use Rattle.pieces.proofs.term.NextTerm.{the-type}
-use Rattle.reader.specs.Fill.{termsGot, TermsFilled, SumFits, SumFilled}
+use Rattle.columns.specs.Sizes.{capped}
+use Rattle.reader.specs.Fill.{termsGot, TermsFilled, SumFits, TermPut, SumFilled, SumWalked}
+use Rattle.reader.specs.declared.sum.SumRead.the-variants as walked
 use Rattle.definitions.proofs.Columns.{over-length, over-set}
-use Rattle.reader.proofs.Sums.{never}
+use Rattle.reader.proofs.Sums.{never, Summing, summing-start, summing-stop, summing-bad, summing-term, sum-of, sum-refused}
 
 -- ---- a column that holds f of each: as long as it was, and one more
 module _ {A B : Type 0} (f : A → B) (pre : List A) (l₀ l : List B) (e : l ≡ over (map f pre) l₀) where
@@ -53,13 +51,6 @@ pub never-broken : {A : Type 0} {x : Walked A} {r : _} {xs : List A} {n : ℕ} �
 never-broken p q = never (cc)
 
 -- ---- a sum's terms
-
--- an answer that is no term
-no-term : (r : NextTerm) → OneOf (1 ∷ 2 ∷ []) (tagOf the-type r) → (t : Term) (n : ℕ) → saidNext r ≡ item t n → ⊥
-no-term (next.Term w l m) (inl k) t n e = omega arith
-no-term (next.Term w l m) (inr k) t n e = omega arith
-no-term (next.Refused x) k t n e = never (cc)
-no-term next.Stop k t n e = never (cc)
 
 -- a sum that was got is a walk over all its terms
 module _ (o : Options) (s : List ℕ) where
@@ -100,19 +91,14 @@ module _ (o : Options) (s : List ℕ) (w₀ : List ℤ) (l₀ : List ℕ) where
     )
 
     -- no term follows
-    pub sum-done : (r : NextTerm) → OneOf (1 ∷ 2 ∷ []) (tagOf the-type r) → saidNext r ≡ termStep o (drop at s) → SumFilled o s w₀ l₀ (record { terms = terms; taken = at }) w l
-    sum-done r k e = by (termStep o (drop at s)) refl
-      where
-        by : (x : Step Term) → termStep o (drop at s) ≡ x → SumFilled o s w₀ l₀ (record { terms = terms; taken = at }) w l
-        by stop q =
-            let f : sum o s ≡ got (i .pre) at = items-sum o s (i .pre) at (at-stop (termStep o) anywhere (term-moves o) s at (i .pre) (i .stands) q) in
-            record {
-              reads = f ∙ ap (λ (g : Got (List Term)). got (termsGot g) at) (sym f);
-              counts = i .counts ∙ ap (λ (g : Got (List Term)). length (termsGot g)) (sym f);
-              filled = rw f (i .filled);
-            }
-        by (bad x j) q = absurd (never-broken (at-bad (termStep o) anywhere (term-moves o) s at (i .pre) (i .stands) x j q) reads)
-        by (item t n) q = absurd (no-term r k t n (e ∙ q))
+    pub sum-stopped : termStep o (drop at s) ≡ stop → TermsFilled (termsGot (sum o s)) w₀ l₀ w l
+    sum-stopped q =
+        let f : sum o s ≡ got (i .pre) at = items-sum o s (i .pre) at (at-stop (termStep o) anywhere (term-moves o) s at (i .pre) (i .stands) q) in
+        rw f (i .filled)
+
+    -- and none is refused
+    pub sum-unbroken : (e k : ℕ) → termStep o (drop at s) ≡ bad e k → ⊥
+    sum-unbroken e k q = never-broken (at-bad (termStep o) anywhere (term-moves o) s at (i .pre) (i .stands) e k q) reads
 
     -- one term more
     module _ (t : Term) (n : ℕ) (e : item t n ≡ termStep o (drop at s)) where
@@ -148,3 +134,80 @@ module _ (o : Options) (s : List ℕ) (w₀ : List ℤ) (l₀ : List ℕ) where
                   literals = column-more literalOf (i .pre) l₀ l (i .filled .literals) terms t (i .counts) (sum-moves .literals);
                 };
           }
+
+-- ---- a term put into two columns
+
+module _ (at : ℕ) (z : ℤ) (n : ℕ) (w : List ℤ) (l : List ℕ) where
+  pub put-there : at < min (length w) (length l) → TermPut at z n w l (set w at z) (set l at n)
+  put-there h = record { weights = rw (lt-ltb at (min (length w) (length l)) h); literals = rw (lt-ltb at (min (length w) (length l)) h) }
+
+  pub put-nowhere : min (length w) (length l) ≤ at → TermPut at z n w l w l
+  put-nowhere h = record { weights = rw (le-ltb at (min (length w) (length l)) h); literals = rw (le-ltb at (min (length w) (length l)) h) }
+
+  module _ (w' : List ℤ) (l' : List ℕ) (p : TermPut at z n w l w' l') where
+    pub put-lengths : (length w' ≡ length w) × (length l' ≡ length l)
+    put-lengths = (ap length (p .weights) ∙ same w z (ltb at (min (length w) (length l))), ap length (p .literals) ∙ same l n (ltb at (min (length w) (length l))))
+      where
+        same : {A : Type 0} (x : List A) (a : A) (b : Bool) → length (cond b (set x at a) x) ≡ length x
+        same x a true = length-set x at a
+        same x a false = refl
+
+    put-is : at < min (length w) (length l) → (w' ≡ set w at z) × (l' ≡ set l at n)
+    put-is h = (p .weights ∙ rw (lt-ltb at (min (length w) (length l)) h), p .literals ∙ rw (lt-ltb at (min (length w) (length l)) h))
+
+-- ---- the walk over a sum: what is counted of it, and, if it reads well and fits, what is filled
+module _ (o : Options) (s : List ℕ) (w₀ : List ℤ) (l₀ : List ℕ) where
+  pub record Walking (at count size : ℕ) (w : List ℤ) (l : List ℕ) : Type 0 where
+    pub summing : Summing o s at count size
+    pub weights : length w ≡ length w₀
+    pub literals : length l ≡ length l₀
+    pub fills : SumFits o s w₀ l₀ → SumFills o s w₀ l₀ at count w l
+
+  pub walking-start : Walking 0 0 0 w₀ l₀
+  walking-start = record { summing = summing-start o s; weights = refl; literals = refl; fills = λ f. sum-start o s w₀ l₀ }
+
+  module _ (at count size : ℕ) (w : List ℤ) (l : List ℕ) (i : Walking at count size w l) where
+    pub walking-stop : termStep o (drop at s) ≡ stop → SumWalked o s w₀ l₀ (walked.Sum count size at) w l
+    walking-stop e =
+        record {
+          answer = summing-stop o s at count size (i .summing) e;
+          filled = λ f. sum-stopped o s w₀ l₀ f at count w l (i .fills f) e;
+        }
+
+    pub walking-bad : (n k : ℕ) → termStep o (drop at s) ≡ bad n k → SumWalked o s w₀ l₀ (walked.Refused n) w l
+    walking-bad n k e =
+        record {
+          answer = summing-bad o s at count size (i .summing) n k e;
+          filled = λ f. absurd (sum-unbroken o s w₀ l₀ f at count w l (i .fills f) n k e);
+        }
+
+    -- one term more
+    pub walking-term : (t : Term) (n : ℕ) → termStep o (drop at s) ≡ item t n
+        → (w' : List ℤ) (l' : List ℕ) → TermPut count (t .weight) (t .code) w l w' l'
+        → Walking (at + n) (count + 1) (capped (size + natAbs (t .weight))) w' l'
+    walking-term t n e w' l' p =
+        let h = put-lengths count (t .weight) (t .code) w l w' l' p in
+        record {
+          summing = summing-term o s at count size (i .summing) t n e;
+          weights = h .0 ∙ i .weights;
+          literals = h .1 ∙ i .literals;
+          fills =
+              λ f.
+              let m = sum-moves o s w₀ l₀ f at count w l (i .fills f) t n (sym e) in
+              let q = put-is count (t .weight) (t .code) w l w' l' p (omega (arith, m .weights, m .literals, i .weights, i .literals)) in
+              rw (q .0, q .1) (sum-more o s w₀ l₀ f at count w l (i .fills f) t n (sym e));
+        }
+
+-- a walk over a sum that reads well has its terms
+module _ (o : Options) (s : List ℕ) (w₀ : List ℤ) (l₀ : List ℕ) (w : List ℤ) (l : List ℕ) (fits : SumFits o s w₀ l₀) where
+  pub walked-sum : (n m k : ℕ) → SumWalked o s w₀ l₀ (walked.Sum n m k) w l → SumFilled o s w₀ l₀ (record { terms = n; taken = k }) w l
+  walked-sum n m k a =
+      let is = sum-of o s n m k (a .answer) in
+      record {
+        reads = is .is ∙ ap (λ (g : Got (List Term)). got (termsGot g) k) (sym (is .is));
+        counts = sym (is .counted) ∙ ap (λ (g : Got (List Term)). length (termsGot g)) (sym (is .is));
+        filled = a .filled fits;
+      }
+
+  pub walked-refused : (e : ℕ) → SumWalked o s w₀ l₀ (walked.Refused e) w l → ⊥
+  walked-refused e a = let z : none e ≡ got (fits .given) (fits .taken) = sym (sum-refused o s e (a .answer)) ∙ fits .reads in never (cc)

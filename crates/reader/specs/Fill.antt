@@ -1,10 +1,10 @@
 -- What the second walk is given, and what it leaves in the columns.
-use Prim.Native.Nat.{ℕ, _≤_}
+use Prim.Native.Nat.{ℕ, _≤_, min}
 use mathlib.Core.Path.{_≡_}
 use mathlib.Core.Bool.{cond}
 use mathlib.Core.List.{List, [], map}
-use lib.Dec.{eqb}
-use lib.ListN.{length}
+use lib.Dec.{eqb, ltb}
+use lib.ListN.{length, set}
 use lib.IntN.{ℤ}
 use Rattle.definitions.specs.Lists.{over}
 use Rattle.definitions.specs.Reader.{Got, none, got}
@@ -14,9 +14,10 @@ use Rattle.definitions.specs.Table.{Table, rowRoom, termRoom, allTerms}
 use Rattle.definitions.specs.Text.{sum}
 use Rattle.definitions.specs.File.{statements}
 use Rattle.definitions.specs.declared.Options.{Options}
-use Rattle.reader.specs.Brief.{briefRow, briefStep}
-use Rattle.reader.specs.Said.{saidRow, saidStatement}
+use Rattle.reader.specs.Brief.{summed, briefRow, briefStep}
+use Rattle.reader.specs.Said.{saidSum, saidRow, saidStatement}
 use Rattle.reader.specs.declared.fill.Filled.{Filled}
+use Rattle.reader.specs.declared.sum.SumRead.{SumRead}
 use Rattle.reader.specs.declared.row.RowRead.{RowRead}
 use Rattle.reader.specs.declared.row.StatementRead.{StatementRead}
 
@@ -62,6 +63,17 @@ pub record SumFilled (o : Options) (s : List ℕ) (w₀ : List ℤ) (l₀ : List
   pub reads : sum o s ≡ got (termsGot (sum o s)) (r .taken)
   pub counts : r .terms ≡ length (termsGot (sum o s))
   pub filled : TermsFilled (termsGot (sum o s)) w₀ l₀ w l
+
+-- ---- a sum that may be refused, and may not fit
+
+-- a term at a place that both columns have, or neither changed
+pub record TermPut (at : ℕ) (weight : ℤ) (code : ℕ) (w₀ : List ℤ) (l₀ : List ℕ) (w : List ℤ) (l : List ℕ) : Type 0 where
+  pub weights : w ≡ cond (ltb at (min (length w₀) (length l₀))) (set w₀ at weight) w₀
+  pub literals : l ≡ cond (ltb at (min (length w₀) (length l₀))) (set l₀ at code) l₀
+
+pub record SumWalked (o : Options) (s : List ℕ) (w₀ : List ℤ) (l₀ : List ℕ) (r : SumRead) (w : List ℤ) (l : List ℕ) : Type 0 where
+  pub answer : saidSum r ≡ summed (sum o s)
+  pub filled : SumFits o s w₀ l₀ → TermsFilled (termsGot (sum o s)) w₀ l₀ w l
 
 -- ---- a row that reads well
 pub record RowFits (g : Got Row) (w : List ℤ) (l : List ℕ) : Type 0 where

@@ -1,10 +1,10 @@
 // The second walk over a file that has read well, into columns that have room: what the first walk counted is filled. Each function asks for just that, so all are the crate's own. Assumes nothing.
 use crate::row::RowRead;
 use crate::row::StatementRead;
+use crate::sum::SumRead;
 use definitions::Beginning;
 use definitions::Options;
 use pieces::MinRead;
-use pieces::NextTerm;
 ghost use mathlib.Core.Path.{_≡_};
 ghost use Rattle.definitions.specs.Table.{table, filled};
 ghost use Rattle.definitions.specs.Text.{constraint, goal, statement};
@@ -27,22 +27,15 @@ pub(crate) fn fill_sum(
     requires { ⌜ SumFits options (now s) (now weights) (now literals) ⌝ }
     ensures { λ r. ⌜ SumFilled options (now (s .entry)) (now (weights .entry)) (now (literals .entry)) r (now (weights .exit)) (now (literals .exit)) ⌝ }
 {
-    let mut terms: usize = 0;
-    let mut at: usize = 0;
-    loop {
-        let NextTerm::Term {
-            weight,
-            literal,
-            taken,
-        } = pieces::next_term(&s[at..], options)
-        else {
-            return Filled { terms, taken: at };
-        };
-        weights[terms] = weight;
-        literals[terms] = literal.0;
-        terms += 1;
-        at += taken;
-    }
+    let SumRead::Sum {
+        terms,
+        size: _,
+        taken,
+    } = crate::sum::walk_sum(s, options, weights, literals)
+    else {
+        return Filled { terms: 0, taken: 0 };
+    };
+    Filled { terms, taken }
 }
 
 pub(crate) fn fill_constraint(
