@@ -1,20 +1,22 @@
 -- Laws of printing: any text that fits or does not, the digits of a number from the last one on, a sign before them, and a text byte by byte.
 use mathlib.Core.Path.{_≡_, refl, sym, ap, _∙_}
-use mathlib.Core.Bool.{Bool, true, false, not}
+use mathlib.Core.Bool.{Bool, true, false, not, cond}
 use mathlib.Core.List.{List, [], _∷_, _++_, append-assoc, append-nil}
 use Prim.Native.Nat.{ℕ, zero, suc, _+_, _-_, _*_, _%_, _/_, _^_, _≤_, _<_}
 use native.Mathlib.Omega.{arith}
 use native.Mathlib.Decide.{decLe, decLt}
 use native.Mathlib.Numerals.{add-one}
 use lib.Dec.{leb}
-use borrow.Author.Tests.{le-leb, lt-leb, leb-true, not-true, not-false}
+use borrow.Author.Tests.{le-leb, lt-leb, le-ltb, leb-true, not-true, not-false}
 use lib.ListN.{length, getD, take, drop, set, length-set, take-append-drop}
-use lib.Seq.{take-suc, set-at, length-take-le, drop-at, drop-length, take-length, take-suc-set, drop-set-lt, paste, paste-zero, paste-suc}
+use lib.IntN.{ℤ, pos, negsuc, natAbs}
+use lib.Signed.{ltZ}
+use lib.Seq.{take-suc, set-at, length-take-le, drop-at, drop-length, take-length, take-suc-set, take-set-le, drop-set-lt, paste, paste-zero, paste-suc}
 use Rattle.definitions.specs.Bytes.{minus}
-use Rattle.definitions.specs.Number.{decimal}
+use Rattle.definitions.specs.Number.{decimal, integerText}
 use Rattle.definitions.specs.Output.{putAt, putIn}
 use Rattle.definitions.proofs.Numbers.{decimal-small, decimal-big, decimal-length-small, decimal-length-big, decimal-some}
-use Rattle.numbers.specs.Print.{Prints}
+use Rattle.numbers.specs.Print.{Prints, signedText}
 use Rattle.numbers.specs.declared.Put.the-variants.{Done, Full}
 
 -- ---- any text
@@ -181,19 +183,44 @@ module _ (o : List ℕ) (m at n : ℕ) (out : List ℕ) (x k : ℕ) (w : Writing
       rw (w .text, e)
       (put-one o at (drop 1 (decimal m) ++ drop (at + n) o) (48 + x) g ∙ ap (λ (l : List ℕ). take at o ++ (l ++ drop (at + n) o)) (sym s))
 
--- ---- a sign, and then the digits behind it
-signed-text : (o : List ℕ) (at n : ℕ) (ds : List ℕ) → at < length o
+-- ---- a sign or none, and then the digits behind it
+
+-- the sign's place holds the sign
+behind-sign : (o : List ℕ) (at n : ℕ) (ds : List ℕ) → at < length o
     → take (at + 1) (set o at minus) ++ (ds ++ drop (at + 1 + n) (set o at minus)) ≡ take at o ++ ((minus ∷ ds) ++ drop (at + suc n) o)
-signed-text o at n ds h =
+behind-sign o at n ds h =
     let e : at + 1 + n ≡ at + suc n = omega arith in
     rw (drop-set-lt (at + 1 + n) o at minus (omega arith), e, add-one at, take-suc-set o at minus h) (simp append-assoc)
 
-pub negative-done : (m at : ℕ) (o : List ℕ) (n : ℕ) (out : List ℕ) → n ≡ length (decimal m) → at + (n + 1) ≤ length o
-    → out ≡ take (at + 1) (set o at minus) ++ (decimal m ++ drop (at + 1 + n) (set o at minus))
-    → Prints (minus ∷ decimal m) at o (Done (at + 1 + n)) out
-negative-done m at o n out e h q =
-    done (minus ∷ decimal m) at o (suc n) (ap suc e) (at + 1 + n) out (omega arith) (omega arith)
-    (q ∙ signed-text o at n (decimal m) (omega arith))
+-- the sign's place holds the first digit
+over-sign : (o : List ℕ) (at n : ℕ) (ds : List ℕ) → 0 < n
+    → take (at + 0) (set o at minus) ++ (ds ++ drop (at + 0 + n) (set o at minus)) ≡ take at o ++ (ds ++ drop (at + n) o)
+over-sign o at n ds h =
+    let e : at + 0 ≡ at = omega arith in
+    rw (e, take-set-le at o at minus (omega arith), drop-set-lt (at + n) o at minus (omega arith))
+
+pub signed-counted : (b : Bool) (m k n : ℕ) → k ≡ cond b 1 0 → n ≡ length (decimal m) → n + k ≡ length (signedText b m)
+signed-counted true m k n e c = rw e (add-one n ∙ ap suc c)
+signed-counted false m k n e c = omega arith
+
+pub signed-done : (b : Bool) (m at : ℕ) (o : List ℕ) (k n : ℕ) (out : List ℕ) → k ≡ cond b 1 0 → n ≡ length (decimal m) → at + (n + k) ≤ length o
+    → out ≡ take (at + k) (set o at minus) ++ (decimal m ++ drop (at + k + n) (set o at minus))
+    → Prints (signedText b m) at o (Done (at + k + n)) out
+signed-done true m at o k n out e c h q =
+    done (minus ∷ decimal m) at o (suc n) (ap suc c) (at + k + n) out (omega arith) (omega arith)
+    ((rw e at q) ∙ behind-sign o at n (decimal m) (omega arith))
+signed-done false m at o k n out e c h q =
+    done (decimal m) at o n c (at + k + n) out (omega arith) (omega arith)
+    ((rw e at q) ∙ over-sign o at n (decimal m) (omega (arith, decimal-some m)))
+
+-- what an integer's sign and size print
+pub integer-is : (z : ℤ) → signedText (ltZ z (pos 0)) (natAbs z) ≡ integerText z
+integer-is (pos n) = rw (le-ltb n 0 (omega arith))
+integer-is (negsuc n) = refl
+
+pub decimal-short : (m : ℕ) → m < 2 ^ 64 → length (decimal m) ≤ 20
+unfolding tens
+decimal-short m h = no-longer 19 m (omega arith)
 
 -- ---- a text byte by byte, from the first one on
 

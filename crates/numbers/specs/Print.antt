@@ -1,7 +1,10 @@
 -- What the code's answer to printing says, and what a print leaves in the output.
 use mathlib.Core.Path.{_≡_}
 use Prim.Native.Nat.{ℕ}
-use mathlib.Core.List.{List}
+use mathlib.Core.Bool.{Bool, true, false}
+use mathlib.Core.List.{List, _∷_}
+use Rattle.definitions.specs.Bytes.{minus}
+use Rattle.definitions.specs.Number.{decimal}
 use Rattle.definitions.specs.Refusal.{Checked, refuse, accept}
 use Rattle.definitions.specs.Output.{putAt, putIn}
 use Rattle.numbers.specs.declared.Put.{Put}
@@ -16,3 +19,8 @@ put Full = refuse 14
 pub record Prints (text : List ℕ) (at : ℕ) (o : List ℕ) (r : Put) (o′ : List ℕ) : Type 0 where
   pub answer : put r ≡ putAt text at o
   pub after : o′ ≡ putIn text at o
+
+-- the digits of m behind a sign, if it is negative
+abbrev pub signedText : Bool → ℕ → List ℕ
+signedText true m = minus ∷ decimal m
+signedText false m = decimal m

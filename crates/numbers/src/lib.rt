@@ -2,16 +2,15 @@
 
 ghost use mathlib.Core.Path.{_≡_};
 ghost use mathlib.Core.Bool.{true};
-ghost use mathlib.Core.List.{_∷_, _++_};
+ghost use mathlib.Core.List.{_++_};
 ghost use Prim.Native.Nat.{_+_, _<_, _≤_, _^_};
 ghost use lib.Dec.{leb};
 ghost use lib.ListN.{length, take, drop};
 ghost use lib.IntN.{natAbs};
 ghost use Rattle.definitions.specs.Limits.{inI64};
-ghost use Rattle.definitions.specs.Bytes.{minus};
 ghost use Rattle.definitions.specs.Number.{leading, signed, ended, number, decimal, integerText};
 ghost use Rattle.numbers.specs.Read.{said, runOf};
-ghost use Rattle.numbers.specs.Print.{Prints};
+ghost use Rattle.numbers.specs.Print.{Prints, signedText};
 
 // What stands at the front of a part: a number and how many bytes it takes, or none.
 pub enum NumberRead {
@@ -174,40 +173,31 @@ fn put_digits(m: u64, out: &mut [u8], at: usize, n: usize)
     out[at] = b'0' + x as u8;
 }
 
+// A `-` or none, and then the digits of m.
+fn print_signed(negative: bool, m: u64, out: &mut [u8], at: usize) -> Put
+    ensures { λ r. ⌜ Prints (signedText negative m) at (now (out .entry)) r (now (out .exit)) ⌝ }
+{
+    let n = count_length(m);
+    let k: usize = if negative { 1 } else { 0 };
+    if !has_room(n + k, at, out.len()) {
+        return Put::Full;
+    }
+    // Where there is no sign, the first digit takes its place.
+    out[at] = b'-';
+    put_digits(m, out, at + k, n);
+    Put::Done(at + k + n)
+}
+
 pub fn print_count(m: u64, out: &mut [u8], at: usize) -> Put
     ensures { λ r. ⌜ Prints (decimal m) at (now (out .entry)) r (now (out .exit)) ⌝ }
 {
-    let n = count_length(m);
-    if !has_room(n, at, out.len()) {
-        return Put::Full;
-    }
-    put_digits(m, out, at, n);
-    Put::Done(at + n)
-}
-
-// The number below 0 whose size is m.
-fn print_negative(m: u64, out: &mut [u8], at: usize) -> Put
-    requires { ⌜ m ≤ 2 ^ 63 ⌝ }
-    ensures { λ r. ⌜ Prints (minus ∷ decimal m) at (now (out .entry)) r (now (out .exit)) ⌝ }
-{
-    let n = count_length(m);
-    if !has_room(n + 1, at, out.len()) {
-        return Put::Full;
-    }
-    out[at] = b'-';
-    put_digits(m, out, at + 1, n);
-    Put::Done(at + 1 + n)
+    print_signed(false, m, out, at)
 }
 
 pub fn print_number(value: i64, out: &mut [u8], at: usize) -> Put
     ensures { λ r. ⌜ Prints (integerText value) at (now (out .entry)) r (now (out .exit)) ⌝ }
 {
-    let m = magnitude(value);
-    if value < 0 {
-        print_negative(m, out, at)
-    } else {
-        print_count(m, out, at)
-    }
+    print_signed(value < 0, magnitude(value), out, at)
 }
 
 pub fn print_text(text: &[u8], out: &mut [u8], at: usize) -> Put

@@ -7,7 +7,7 @@ use native.Mathlib.Omega.{arith}
 use native.Mathlib.Numerals.{add-one}
 use borrow.Author.Tests.{le-leb}
 use lib.ListN.{length, take, drop, set, length-set, length-append, length-drop, take-append-drop}
-use lib.Seq.{length-take-le, take-at, drop-at, drop-drop, set-split}
+use lib.Seq.{length-take-le, take-at, drop-at, drop-drop, set-split, take-set-le, drop-set-lt}
 use Rattle.definitions.specs.Refusal.{accept}
 use Rattle.definitions.specs.Output.{putAt, putIn}
 use Rattle.numbers.specs.Print.{Prints, put}
@@ -91,3 +91,11 @@ puts-none at o = record { place = omega arith; after = sym (placed-none at o) }
 pub then-byte : (b q : ℕ) {a : List ℕ} {at : ℕ} {o : List ℕ} {p : ℕ} {o₁ : List ℕ} → at + length a < length o → q ≡ p + 1 → Puts a at o p o₁ → Puts (a ++ (b ∷ [])) at o q (set o₁ p b)
 then-byte b q {a} {at} {o} {p} {o₁} h e f =
     puts-then f (omega arith) (puts-byte b p q o₁ (omega (arith, f .place, puts-length f (omega arith))) e)
+
+-- a text over a byte
+pub puts-over : (b : ℕ) {a : List ℕ} {at : ℕ} {o : List ℕ} {p : ℕ} {o₁ : List ℕ} → 0 < length a → Puts a at (set o at b) p o₁ → Puts a at o p o₁
+puts-over b {a} {at} {o} {p} {o₁} h f =
+    record {
+      place = f .place;
+      after = f .after ∙ rw (take-set-le at o at b (omega arith), drop-set-lt (at + length a) o at b (omega arith));
+    }

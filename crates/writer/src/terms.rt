@@ -112,11 +112,13 @@ pub(crate) fn put_spaced(apart: bool, t: Shown, n: FileNumber, out: &mut [u8], a
     requires { ⌜ at + (length (termWords t (n .0)) + 1) ≤ length (now out) ⌝ }
     ensures { λ r. ⌜ Puts (spacedBy apart (termWords t (n .0))) at (now (out .entry)) r (now (out .exit)) ⌝ }
 {
+    let from = if apart { at + 1 } else { at };
+    // Where the space stands behind, the term takes its place in front.
+    out[at] = b' ';
+    let end = put_term(t, n, out, from);
     if apart {
-        out[at] = b' ';
-        return put_term(t, n, out, at + 1);
+        return end;
     }
-    let end = put_term(t, n, out, at);
     out[end] = b' ';
     end + 1
 }
