@@ -3,23 +3,24 @@
 
 #include "tight.h"
 
-static const uint8_t *number(const uint8_t *p, int64_t *value) {
-    int negative = *p == '-';
-    int64_t v = 0;
-    p += negative;
-    while (*p >= '0' && *p <= '9') v = 10 * v + (*p++ - '0');
-    *value = negative ? -v : v;
-    return p;
-}
+/* The number at p, and p behind it. */
+#define NUMBER(value)                                             \
+    do {                                                          \
+        int negative = 0;                                         \
+        if (*p == '-') negative = 1, p++;                         \
+        value = 0;                                                \
+        while (*p >= '0' && *p <= '9') value = 10 * value + (*p++ - '0'); \
+        if (negative) value = -value;                             \
+    } while (0)
 
-static const uint8_t *blanks(const uint8_t *p) {
-    while (*p == ' ') p++;
-    return p;
-}
+#define BLANKS \
+    while (*p == ' ') p++
 
 size_t tight_read(const uint8_t *p, const uint8_t *end, int64_t *bounds, int64_t *weights, uint32_t *literals) {
     size_t rows = 0, n = 0;
     while (p < end) {
+        int64_t weight, bound = 0;
+        uint32_t variable;
         if (*p == '*') {
             p = memchr(p, '\n', (size_t)(end - p));
             if (p == NULL) break;
@@ -27,18 +28,26 @@ size_t tight_read(const uint8_t *p, const uint8_t *end, int64_t *bounds, int64_t
             rows++;
             continue;
         }
-        if (*p == 'm') p = blanks(p + 4);
-        while (*p == '-' || (*p >= '0' && *p <= '9')) {
-            int64_t v;
-            p = blanks(number(p, &weights[n]));
-            int negated = *p == '~';
-            p = number(p + negated + 1, &v);
-            literals[n++] = (uint32_t)(2 * (v - 1) + negated);
-            p = blanks(p);
+        if (*p == 'm') p += 4;
+        for (;;) {
+            BLANKS;
+            if (*p != '-' && (*p < '0' || *p > '9')) break;
+            NUMBER(weight);
+            BLANKS;
+            int negated = 0;
+            if (*p == '~') negated = 1, p++;
+            p++;
+            variable = 0;
+            while (*p >= '0' && *p <= '9') variable = 10 * variable + (uint32_t)(*p++ - '0');
+            weights[n] = weight;
+            literals[n++] = 2 * (variable - 1) + (uint32_t)negated;
         }
-        bounds[rows] = 0;
-        if (*p != ';') p = number(blanks(p + 2), &bounds[rows]);
-        rows++;
+        if (*p != ';') {
+            p += 2;
+            BLANKS;
+            NUMBER(bound);
+        }
+        bounds[rows++] = bound;
         while (*p != '\n') p++;
         p++;
     }
