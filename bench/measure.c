@@ -1,4 +1,4 @@
-/* Times one call: measure WHAT FILE, WHAT one of read, tight, newlines, write, write-plain. Prints the seconds, the bytes that they went over and the peak memory of the process in KB. Columns and outputs
+/* Times one call: measure WHAT FILE, WHAT one of read, walks, tight, newlines, write, write-plain. Prints the seconds, the bytes that they went over and the peak memory of the process in KB. Columns and outputs
  * are there and touched before the clock starts, and the call has been made once before, as a caller's who reads many files.
  *
  * On x86-64 the library is called as include/opb.h says. Elsewhere the same module was compiled for this processor (bench/library), and the address of the answer is its functions' first parameter. */
@@ -10,6 +10,7 @@
 
 #include "opb.h"
 #include "tight.h"
+#include "walks.h"
 
 #ifdef __x86_64__
 #define ASK(answer, call, ...) (answer = opb_##call(__VA_ARGS__))
@@ -108,6 +109,15 @@ static void read_tight(void) {
     if (rows != t.rows) exit(1);
 }
 
+static void read_walks(void) {
+    table t = counted();
+    walks_read(file, length, t.bounds, t.rows, t.weights, t.literals, t.terms);
+    double began = now();
+    size_t rows = walks_read(file, length, t.bounds, t.rows, t.weights, t.literals, t.terms);
+    told(began, length);
+    if (rows != t.rows) exit(1);
+}
+
 /* Inlined into a function that is called once, gcc would not vectorise it. */
 __attribute__((noinline)) static size_t count_newlines(const uint8_t *bytes, size_t count) {
     size_t n = 0;
@@ -132,6 +142,7 @@ int main(int count, char **words) {
     rewind(from);
     if (fread(file, 1, length, from) != length) return 2;
     if (strcmp(words[1], "read") == 0) read_file(1);
+    else if (strcmp(words[1], "walks") == 0) read_walks();
     else if (strcmp(words[1], "tight") == 0) read_tight();
     else if (strcmp(words[1], "newlines") == 0) newlines();
     else if (strcmp(words[1], "write") == 0) write_table(0);

@@ -19,11 +19,11 @@ def speed(size, who, what):
 
 print("%s, %s rounds each, medians, MB/s (a MB is 1,000,000 bytes)" % (platform.machine(), len(seconds[sizes[0], "ours", "read"])))
 print()
-print("| file | our read | rustsat's | ratio | C single pass | ratio | newline count | our write | rustsat's | ratio | no-negated: ours | rustsat's | ratio |")
-print("|---" * 13 + "|")
+print("| file | our read | rustsat's | ratio | two walks in C | ratio | C single pass | ratio | newline count | our write | rustsat's | ratio | no-negated: ours | rustsat's | ratio |")
+print("|---" * 15 + "|")
 for size in sizes:
-    read, rust, tight = speed(size, "ours", "read"), speed(size, "rustsat", "read"), speed(size, "ours", "tight")
-    row = ["%.0f MB" % (int(size) / 1e6), "%.0f" % read, "%.0f" % rust, "%.2f" % (read / rust), "%.0f" % tight, "%.2f" % (read / tight), "%.0f" % speed(size, "ours", "newlines")]
+    read, rust, walks, tight = speed(size, "ours", "read"), speed(size, "rustsat", "read"), speed(size, "ours", "walks"), speed(size, "ours", "tight")
+    row = ["%.0f MB" % (int(size) / 1e6), "%.0f" % read, "%.0f" % rust, "%.2f" % (read / rust), "%.0f" % walks, "%.2f" % (read / walks), "%.0f" % tight, "%.2f" % (read / tight), "%.0f" % speed(size, "ours", "newlines")]
     for what in ("write", "write-plain"):
         ours, rust = speed(size, "ours", what), speed(size, "rustsat", what)
         row += ["%.0f" % ours, "%.0f" % rust, "%.2f" % (ours / rust)]
