@@ -1,4 +1,4 @@
-/* Times one call: measure WHAT FILE, WHAT one of read, walks, tight, newlines, write, write-plain. Prints the seconds, the bytes that they went over and the peak memory of the process in KB. Columns and outputs
+/* Times one call: measure WHAT FILE, WHAT one of read, count (the first walk alone), walks, tight, newlines, write, write-plain. Prints the seconds, the bytes that they went over and the peak memory of the process in KB. Columns and outputs
  * are there and touched before the clock starts, and the call has been made once before, as a caller's who reads many files.
  *
  * On x86-64 the library is called as include/opb.h says. Elsewhere the same module was compiled for this processor (bench/library), and the address of the answer is its functions' first parameter. */
@@ -100,6 +100,15 @@ static void write_table(unsigned plain) {
     told(began, w.length);
 }
 
+static void count_file(void) {
+    opb_table a;
+    ASK(a, count, file, length, 1u);
+    double began = now();
+    ASK(a, count, file, length, 1u);
+    told(began, length);
+    accepted(a.refusal);
+}
+
 static void read_tight(void) {
     table t = counted();
     tight_read(file, file + length, t.bounds, t.weights, t.literals);
@@ -142,6 +151,7 @@ int main(int count, char **words) {
     rewind(from);
     if (fread(file, 1, length, from) != length) return 2;
     if (strcmp(words[1], "read") == 0) read_file(1);
+    else if (strcmp(words[1], "count") == 0) count_file();
     else if (strcmp(words[1], "walks") == 0) read_walks();
     else if (strcmp(words[1], "tight") == 0) read_tight();
     else if (strcmp(words[1], "newlines") == 0) newlines();
