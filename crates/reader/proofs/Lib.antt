@@ -3,8 +3,16 @@ pub mod Rows
 pub mod Counts
 pub mod OneAnswer
 pub mod Fills
+pub mod Runs
 pub mod FillRows
 pub mod FillLines
 pub mod Files
 pub mod OneTable
 pub mod FillTerms
+pub mod Lanes
+pub mod LaneValues
+pub mod DigitLanes
+pub mod Gaps
+pub mod PlainLanes
+pub mod PlainTexts
+pub mod PlainTerms

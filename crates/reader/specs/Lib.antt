@@ -4,3 +4,6 @@ pub mod Fitting
 pub mod Fill
 pub mod Reads
 pub mod FillsTerms
+pub mod Lanes
+pub mod Plain
+pub mod Run

@@ -3,10 +3,13 @@
 mod count;
 mod file;
 mod fill;
+mod plain;
 mod row;
+mod run;
 mod statement;
 mod sum;
 mod terms;
+mod word;
 
 pub use count::Counted;
 pub use count::count_file;

@@ -29,7 +29,7 @@ fn put_term(weights: &mut [i64], literals: &mut [u32], at: usize, weight: i64, l
 }
 
 // Both walks over a sum are this one, so that its loop is compiled once and as a whole: the terms are checked and counted, and put into the columns as far as these have room. The first walk
-// lends none.
+// lends none. Plain terms are passed by a loop of their own.
 pub(crate) fn walk_sum(
     s: &[u8],
     options: Options,
@@ -42,6 +42,10 @@ pub(crate) fn walk_sum(
     let mut size: u64 = 0;
     let mut at: usize = 0;
     loop {
+        let run = crate::run::walk_plain(&s[at..], options, weights, literals, count, size);
+        count = run.terms;
+        size = run.size;
+        at += run.taken;
         match pieces::next_term(&s[at..], options) {
             NextTerm::Stop => {
                 return SumRead::Sum {

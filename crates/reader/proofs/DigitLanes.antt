@@ -1,0 +1,233 @@
+-- Digits in the lanes of a word: the test of all lanes at once, and the digits that stand in a word of text.
+use mathlib.Core.Path.{_≡_, refl, sym, ap, ap₂, subst, _∙_}
+use mathlib.Core.Bool.{Bool, true, false, _&&_}
+use mathlib.Core.List.{List, [], _∷_, _++_, map}
+use Prim.Native.Nat.{ℕ, zero, suc, _+_, _-_, _*_, _/_, _%_, _^_, _≤_, _<_}
+use native.Mathlib.Nat.{mod-lt, mul-assoc, mul-le-mul-right, pow-succ', suc-add}
+use native.Mathlib.Decide.{decLe}
+use native.Mathlib.Omega.{arith}
+use borrow.Author.Tests.{leb-true, le-leb, lt-leb, eq-eqb, ne-eqb}
+use lib.Arith.{mod-mul}
+use lib.Bits.{bitAnd, bitXor, and-block, and-high, and-zero-r, xor-shr, xor-mod, xor-add-and}
+use lib.Dec.{leb, eqb, lit<}
+use lib.ListN.{length, take, replicate}
+use lib.Pow.{pow-pos, pow-add, split}
+use Rattle.definitions.specs.Bytes.{isDigit}
+use Rattle.definitions.specs.Number.{value, valueOn}
+use Rattle.definitions.proofs.Truths.{both}
+use Rattle.reader.specs.Lanes.{lanes, allBytes, digitLanes, InLanes, DigitsAre}
+
+-- from 0 to 9
+abbrev small : ℕ → Bool
+small d = leb d 9
+
+-- ---- the test of all lanes at once
+
+-- the highest bit of n lanes
+tops : ℕ → ℕ
+tops zero = 0
+tops (suc n) = tops n * 256 + 128
+
+-- what takes ten, and no digit, to the highest bit, in n lanes
+nines : ℕ → ℕ
+nines zero = 0
+nines (suc n) = nines n * 256 + 118
+
+-- the highest bits of the lowest lane and of the others
+tops-of : (y e : ℕ) → bitAnd y (e * 256 + 128) ≡ bitAnd (y / 256) e * 256 + y % 256 / 128 % 2 * 128
+tops-of y e =
+    ap (λ (x : ℕ). bitAnd x (e * 256 + 128)) (sym (split y 8))
+    ∙ and-block 8 (y / 256) e (y % 256) 128 (mod-lt y (pow-pos 8)) (lit< tt)
+    ∙ ap (λ (x : ℕ). bitAnd (y / 256) e * 256 + x) (and-high (y % 256) 1 7)
+
+-- no lane has its highest bit: the lowest lane, and the others
+no-tops : (n y : ℕ) → bitAnd y (tops (suc n)) ≡ 0 → (y % 256 < 128) × (bitAnd (y / 256) (tops n) ≡ 0)
+unfolding tops
+no-tops n y e = let p = tops-of y (tops n) in (omega arith, omega arith)
+
+-- digits have none
+digits-no-tops : (n y : ℕ) → allBytes small (lanes n y) ≡ true → bitAnd y (tops n) ≡ 0
+unfolding tops lanes allBytes
+digits-no-tops zero y e = and-zero-r y
+digits-no-tops (suc n) y e =
+    let p = both (small (y % 256)) (allBytes small (lanes n (y / 256))) e in
+    let l : y % 256 ≤ 9 = leb-true (y % 256) 9 (p .0) in
+    omega (arith, tops-of y (tops n), digits-no-tops n (y / 256) (p .1))
+
+-- the lowest lane takes no carry to the others
+low-lane : (n y : ℕ) → y % 256 < 128 → ((y + nines (suc n)) / 256 ≡ y / 256 + nines n) × ((y + nines (suc n)) % 256 ≡ y % 256 + 118)
+unfolding nines
+low-lane n y h = (omega arith, omega arith)
+
+lane-tested : (x b : ℕ) → b < 128 → eqb (x * 256 + (b + 118) / 128 % 2 * 128) 0 ≡ small b && eqb x 0
+lane-tested x b h = by (decLe b 9) (decLe x 0)
+  where
+    by : Dec (b ≤ 9) → Dec (x ≤ 0) → eqb (x * 256 + (b + 118) / 128 % 2 * 128) 0 ≡ small b && eqb x 0
+    by (yes l) (yes z) = rw (le-leb b 9 l, eq-eqb x 0 (omega arith)) (eq-eqb (x * 256 + (b + 118) / 128 % 2 * 128) 0 (omega arith))
+    by (yes l) (no z) = rw (le-leb b 9 l, ne-eqb x 0 (λ e. omega arith)) (ne-eqb (x * 256 + (b + 118) / 128 % 2 * 128) 0 (λ e. omega arith))
+    by (no l) z = rw (lt-leb b 9 (omega arith)) (ne-eqb (x * 256 + (b + 118) / 128 % 2 * 128) 0 (λ e. omega arith))
+
+-- where no lane has its highest bit, the sums have none exactly if all are digits
+digits-tested : (n y : ℕ) → bitAnd y (tops n) ≡ 0 → eqb (bitAnd (y + nines n) (tops n)) 0 ≡ allBytes small (lanes n y)
+unfolding tops lanes allBytes
+digits-tested zero y e = eq-eqb (bitAnd (y + nines zero) 0) 0 (and-zero-r (y + nines zero))
+digits-tested (suc n) y e =
+    let p = no-tops n y e in
+    let q = low-lane n y (p .0) in
+    rw (tops-of (y + nines (suc n)) (tops n), q .0, q .1)
+    (lane-tested (bitAnd (y / 256 + nines n) (tops n)) (y % 256) (p .0) ∙ ap (λ (t : Bool). small (y % 256) && t) (digits-tested n (y / 256) (p .1)))
+
+-- the numbers of one lane more
+pow-lanes : (n : ℕ) → 2 ^ (8 * suc n) ≡ 2 ^ (8 * n) * 256
+pow-lanes n = let e : 8 * suc n ≡ 8 * n + 8 = omega arith in ap (λ (x : ℕ). 2 ^ x) e ∙ pow-add 2 (8 * n) 8
+
+-- and the sums stay in the lanes
+nines-fit : (n y : ℕ) → y < 2 ^ (8 * n) → bitAnd y (tops n) ≡ 0 → y + nines n < 2 ^ (8 * n)
+unfolding nines
+nines-fit zero y h e = omega arith
+nines-fit (suc n) y h e =
+    let w = pow-lanes n in
+    let p = no-tops n y e in
+    let l : y / 256 < 2 ^ (8 * n) = omega arith in
+    omega (arith, nines-fit n (y / 256) l (p .1))
+
+-- ---- the eight lanes of a word, as the code tests them
+
+-- without a highest bit, the second test tells
+pub tested : (y : ℕ) → bitAnd y 0x8080_8080_8080_8080 ≡ 0 → eqb (bitAnd (y + 0x7676_7676_7676_7676) 0x8080_8080_8080_8080) 0 ≡ digitLanes y
+unfolding tops nines
+tested y e = digits-tested 8 y e
+
+-- a lane with its highest bit is no digit
+pub untested : (y : ℕ) → (bitAnd y 0x8080_8080_8080_8080 ≡ 0 → ⊥) → false ≡ digitLanes y
+unfolding tops
+untested y h = by (digitLanes y) (digits-no-tops 8 y)
+  where
+    by : (t : Bool) → (t ≡ true → bitAnd y 0x8080_8080_8080_8080 ≡ 0) → false ≡ t
+    by true f = absurd (h (f refl))
+    by false f = refl
+
+pub sums-fit : (y : ℕ) → y < 2 ^ 64 → bitAnd y 0x8080_8080_8080_8080 ≡ 0 → y + 0x7676_7676_7676_7676 < 2 ^ 64
+unfolding tops nines
+sums-fit y h e = nines-fit 8 y h e
+
+-- ---- the lanes of a number that is cut, shifted or masked
+
+pub lanes-take : (n k y : ℕ) → n ≤ k → take n (lanes k y) ≡ lanes n y
+unfolding lanes
+lanes-take zero k y h = refl
+lanes-take (suc n) zero y h = absurd (omega arith)
+lanes-take (suc n) (suc k) y h = ap (λ (s : List ℕ). y % 256 ∷ s) (lanes-take n k (y / 256) (omega arith))
+
+-- what is above the lanes does not matter
+pub lanes-mod : (n y : ℕ) → lanes n (y % 2 ^ (8 * n)) ≡ lanes n y
+unfolding lanes
+lanes-mod zero y = refl
+lanes-mod (suc n) y =
+    let e : y % 2 ^ (8 * suc n) ≡ y / 256 % 2 ^ (8 * n) * 256 + y % 256 = ap (λ (x : ℕ). y % x) (pow-lanes n) ∙ mod-mul y (pow-pos (8 * n)) (lit< tt) in
+    ap₂ (λ (b : ℕ) (s : List ℕ). b ∷ s) (omega arith) (ap (lanes n) (omega arith) ∙ lanes-mod n (y / 256))
+
+-- a number shifted by m lanes
+pub lanes-shifted : (m n y : ℕ) → lanes (m + n) (y * 2 ^ (8 * m)) ≡ replicate m 0 ++ lanes n y
+unfolding lanes
+lanes-shifted zero n y = let p : 0 + n ≡ n = omega arith in let e : y * 1 ≡ y = omega arith in ap₂ lanes p e
+lanes-shifted (suc m) n y =
+    let e : y * 2 ^ (8 * suc m) ≡ y * 2 ^ (8 * m) * 256 = ap (λ (x : ℕ). y * x) (pow-lanes m) ∙ sym (mul-assoc y (2 ^ (8 * m)) 256) in
+    rw (suc-add m n)
+    (ap₂ (λ (b : ℕ) (s : List ℕ). b ∷ s) (omega arith) (ap (lanes (m + n)) (omega arith) ∙ lanes-shifted m n y))
+
+-- ---- digits of text
+
+-- `0` in n lanes
+zeros : ℕ → ℕ
+zeros zero = 0
+zeros (suc n) = zeros n * 256 + 48
+
+-- a byte that differs from `0` by no more than a digit is one
+digit-byte : (b : ℕ) → bitXor b 48 ≤ 9 → 48 + bitXor b 48 ≡ b
+digit-byte b h = omega (arith, xor-add-and b 48, and-high b 2 4)
+
+abbrev text : List ℕ → List ℕ
+text = map (λ (d : ℕ). 48 + d)
+
+-- the lowest n lanes that are digits once `0` is taken off, as text, are the bytes of the word
+lanes-text : (n k y : ℕ) → n ≤ k → allBytes small (lanes n (bitXor y (zeros k))) ≡ true → text (lanes n (bitXor y (zeros k))) ≡ lanes n y
+unfolding lanes allBytes zeros
+lanes-text zero k y h e = refl
+lanes-text (suc n) zero y h e = absurd (omega arith)
+lanes-text (suc n) (suc k) y h e =
+    let z = zeros (suc k) in
+    let p : bitXor y z % 256 ≡ bitXor (y % 256) 48 = xor-mod y z 8 ∙ ap (bitXor (y % 256)) (omega arith) in
+    let q : bitXor y z / 256 ≡ bitXor (y / 256) (zeros k) = xor-shr y z 8 ∙ ap (bitXor (y / 256)) (omega arith) in
+    let t = both (small (bitXor y z % 256)) (allBytes small (lanes n (bitXor y z / 256))) e in
+    let l : bitXor (y % 256) 48 ≤ 9 = omega (arith, leb-true (bitXor y z % 256) 9 (t .0)) in
+    ap₂ (λ (b : ℕ) (s : List ℕ). b ∷ s) (ap (λ (x : ℕ). 48 + x) p ∙ digit-byte (y % 256) l)
+    (ap (λ (x : ℕ). text (lanes n x)) q ∙ lanes-text n k (y / 256) (omega arith) (subst (λ (x : ℕ). allBytes small (lanes n x) ≡ true) q (t .1)))
+
+digit-text : (d : ℕ) → d ≤ 9 → isDigit (48 + d) ≡ true
+digit-text d h = rw (le-leb 48 (48 + d) (omega arith)) (le-leb (48 + d) 57 (omega arith))
+
+text-digits : (ds : List ℕ) → allBytes small ds ≡ true → allBytes isDigit (text ds) ≡ true
+unfolding allBytes
+text-digits [] e = refl
+text-digits (d ∷ ds) e =
+    let p = both (small d) (allBytes small ds) e in
+    rw (digit-text d (leb-true d 9 (p .0))) (text-digits ds (p .1))
+
+-- zeros in front change neither the digits nor the value
+zeros-digits : (m : ℕ) (ds : List ℕ) → allBytes small (replicate m 0 ++ ds) ≡ true → allBytes small ds ≡ true
+unfolding allBytes
+zeros-digits zero ds e = e
+zeros-digits (suc m) ds e = zeros-digits m ds e
+
+zeros-value : (m : ℕ) (ds : List ℕ) → value (text (replicate m 0 ++ ds)) ≡ value (text ds)
+unfolding valueOn
+zeros-value zero ds = refl
+zeros-value (suc m) ds = zeros-value m ds
+
+-- n digits after the value a are below (a + 1) times 10 to the n
+value-small : (a : ℕ) (ds : List ℕ) → allBytes small ds ≡ true → valueOn a (text ds) < (a + 1) * 10 ^ length ds
+unfolding valueOn allBytes
+value-small a [] e = omega arith
+value-small a (d ∷ ds) e =
+    let p = both (small d) (allBytes small ds) e in
+    let h : d ≤ 9 = leb-true d 9 (p .0) in
+    let n : a * 10 + (48 + d - 48) + 1 ≤ (a + 1) * 10 = omega arith in
+    omega (arith, value-small (a * 10 + (48 + d - 48)) ds (p .1), mul-le-mul-right (10 ^ length ds) n, ap (λ (x : ℕ). (a + 1) * x) (pow-succ' 10 (length ds)), mul-assoc (a + 1) 10 (10 ^ length ds))
+
+-- ---- the digits in the lowest lanes of a word, shifted to the highest
+
+shifted-lanes : (count x : ℕ) → count ≤ 8 → lanes 8 (x * 2 ^ (64 - 8 * count) % 2 ^ 64) ≡ replicate (8 - count) 0 ++ lanes count x
+shifted-lanes count x h =
+    let e : 64 - 8 * count ≡ 8 * (8 - count) = omega arith in
+    let s : 8 - count + count ≡ 8 = omega arith in
+    lanes-mod 8 (x * 2 ^ (64 - 8 * count))
+    ∙ ap (λ (k : ℕ). lanes 8 (x * 2 ^ k)) e
+    ∙ ap (λ (k : ℕ). lanes k (x * 2 ^ (8 * (8 - count)))) (sym s)
+    ∙ lanes-shifted (8 - count) count x
+
+low-digits : (count word : ℕ) → count ≤ 8 → digitLanes (bitXor word (zeros 8) * 2 ^ (64 - 8 * count) % 2 ^ 64) ≡ true
+    → DigitsAre (lanes count word) (bitXor word (zeros 8) * 2 ^ (64 - 8 * count) % 2 ^ 64)
+unfolding lanes
+low-digits count word h d =
+    let x = bitXor word (zeros 8) in
+    let y = x * 2 ^ (64 - 8 * count) % 2 ^ 64 in
+    let e = shifted-lanes count x h in
+    let t : allBytes small (lanes count x) ≡ true = zeros-digits (8 - count) (lanes count x) (subst (λ (s : List ℕ). allBytes small s ≡ true) e d) in
+    let w = lanes-text count 8 word h t in
+    record {
+      digits = subst (λ (s : List ℕ). allBytes isDigit s ≡ true) w (text-digits (lanes count x) t);
+      number = ap (λ (s : List ℕ). value (text s)) e ∙ zeros-value (8 - count) (lanes count x) ∙ ap value w;
+      small = value-small 0 (lanes 8 y) d;
+    }
+
+-- where all lanes of the shifted word are digits, so are its lowest bytes, with the same value
+pub digits-are : (word bits : ℕ) → InLanes bits → digitLanes (bitXor word 0x3030_3030_3030_3030 * 2 ^ (64 - bits) % 2 ^ 64) ≡ true
+    → DigitsAre (take (bits / 8) (lanes 8 word)) (bitXor word 0x3030_3030_3030_3030 * 2 ^ (64 - bits) % 2 ^ 64)
+unfolding zeros
+digits-are word bits l d =
+    let c = l .count in
+    let h : c ≤ 8 = omega arith in
+    let n : bits / 8 ≡ c = omega arith in
+    rw (n, lanes-take c 8 word h, l .is)
+    (low-digits c word h (subst (λ (b : ℕ). digitLanes (bitXor word 0x3030_3030_3030_3030 * 2 ^ (64 - b) % 2 ^ 64) ≡ true) (l .is) d))

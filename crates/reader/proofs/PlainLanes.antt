@@ -1,0 +1,47 @@
+-- Laws of the lanes of a word: its first bytes, and those of the word shifted by a lane or two.
+use mathlib.Core.Path.{_≡_, refl, sym, ap, _∙_}
+use mathlib.Core.List.{List, [], _∷_}
+use Prim.Native.Nat.{ℕ, zero, suc, _+_, _-_, _*_, _/_, _%_, _≤_}
+use native.Mathlib.Omega.{arith}
+use lib.Bits.{bitAnd, and-mask}
+use lib.ListN.{take, drop, getD}
+use lib.Seq.{take-take}
+use Rattle.reader.specs.Lanes.{lanes, InLanes, AtLane}
+
+-- how many lanes there are does not matter to those in front
+front-lanes : (m n k w : ℕ) → m ≤ n → m ≤ k → take m (lanes n w) ≡ take m (lanes k w)
+unfolding lanes
+front-lanes zero n k w h g = refl
+front-lanes (suc m) zero k w h g = absurd (omega arith)
+front-lanes (suc m) (suc n) zero w h g = absurd (omega arith)
+front-lanes (suc m) (suc n) (suc k) w h g = rw (front-lanes m n k (w / 256) (omega arith) (omega arith))
+
+-- a text that begins with the lanes of w: its first byte, and what is behind that
+pub head-lane : (n w : ℕ) (s : List ℕ) → lanes (suc n) w ≡ take (suc n) s → getD s 0 0 ≡ w % 256
+unfolding lanes
+head-lane n w [] e = absurd (let z : _≡_ {A = ℕ} 0 1 = cc in omega arith)
+head-lane n w (b ∷ s) e = cc
+
+pub tail-lanes : (n w : ℕ) (s : List ℕ) → lanes (suc n) w ≡ take (suc n) s → lanes n (w / 256) ≡ take n (drop 1 s)
+unfolding lanes
+tail-lanes n w [] e = absurd (let z : _≡_ {A = ℕ} 0 1 = cc in omega arith)
+tail-lanes n w (b ∷ s) e = cc
+
+-- the first m of them, out of any number of lanes
+pub take-lanes : (m n k w : ℕ) (s : List ℕ) → m ≤ n → m ≤ k → lanes n w ≡ take n s → take m (lanes k w) ≡ take m s
+take-lanes m n k w s h g e = front-lanes m k n w g h ∙ ap (take m) e ∙ take-take m n s h
+
+-- ---- tests of the first lanes
+
+pub first-lane : (w b : ℕ) → bitAnd w 255 ≡ b → w % 256 ≡ b
+first-lane w b e = sym (and-mask w 8) ∙ e
+
+-- `~x`
+pub first-lanes : (w : ℕ) → bitAnd w 65535 ≡ 30846 → (w % 256 ≡ 126) × (w / 256 % 256 ≡ 120)
+first-lanes w e = let m : w % 65536 ≡ 30846 = sym (and-mask w 16) ∙ e in (omega arith, omega arith)
+
+-- ---- the lanes before one, without the first k
+
+pub lanes-between : (k : ℕ) {first last gap : ℕ} → AtLane first last gap → last ≤ 7 → 8 * k + 12 ≤ gap → InLanes (gap - (8 * k + 4))
+lanes-between k at h g =
+    record { count = at .place - k; is = omega (arith, at .is); least = omega (arith, at .is); most = omega (arith, at .most) }

@@ -1,0 +1,140 @@
+-- Is a term in its plain form what `termStep` reads? A weight and a literal, each with one space behind it and no blank behind that. And the bytes that the words of a text hold.
+use Prim.Native.Nat.{ℕ, suc, _+_, _-_, _/_, _≤_, _<_}
+use mathlib.Core.Path.{_≡_, refl, sym, ap, _∙_}
+use mathlib.Core.Bool.{Bool, true, false}
+use mathlib.Core.Logic.{⊎-elim}
+use mathlib.Core.List.{List, [], _∷_, _++_}
+use native.Mathlib.Omega.{arith}
+use native.Mathlib.Numerals.{add-one}
+use borrow.Author.Tests.{eqb-true, ne-eqb}
+use lib.Dec.{eqb}
+use lib.ListN.{length, take, drop, getD, length-drop}
+use lib.Seq.{length-take-le, drop-cons, drop-at, drop-drop, take-take, take-add, getD-drop}
+use lib.IntN.{ℤ}
+use Rattle.definitions.specs.Bytes.{isBlank, blanks, space, tab, plus, minus}
+use Rattle.definitions.specs.Reader.{none, got, more, chain, done}
+use Rattle.definitions.specs.Number.{leading, number}
+use Rattle.definitions.specs.Walk.{item}
+use Rattle.definitions.specs.Row.{term}
+use Rattle.definitions.specs.Text.{gap, gap1, variable, literal, afterWeight, weighted, beginsTerm, asStep, termStep}
+use Rattle.definitions.specs.declared.Options.{Options}
+use Rattle.definitions.proofs.Texts.{either}
+use Rattle.definitions.proofs.Chains.{chain-got}
+use Rattle.definitions.proofs.Numbers.{ended-none}
+use Rattle.definitions.proofs.Readback.{digit-begins, one-space}
+use Rattle.reader.specs.Lanes.{lanes, laneValue, AtLane, behind}
+use Rattle.reader.specs.Plain.{ShapeIs, Fronted, WeightIs, LiteralIs, PlainIs}
+use Rattle.reader.specs.declared.plain.PlainTerm.{PlainTerm}
+
+-- ---- what stands at the front
+
+-- a number that is read begins a term
+pub number-begins-term : (s : List ℕ) (w : ℤ) (n : ℕ) → number s ≡ got w n → beginsTerm s ≡ true
+unfolding number beginsTerm
+number-begins-term [] w n e = let z : _≡_ {A = ℕ} 0 1 = cc in absurd (omega arith)
+number-begins-term (b ∷ s) w n e = by (eqb b minus) refl (eqb b plus) refl
+  where
+    unsigned : (length (leading (b ∷ s)) ≡ 0 → ⊥) → beginsTerm (b ∷ s) ≡ true
+    unsigned h = digit-begins (b ∷ s) (omega (arith, h))
+
+    by : (m : Bool) → eqb b minus ≡ m → (p : Bool) → eqb b plus ≡ p → beginsTerm (b ∷ s) ≡ true
+    by true q p r = rw (eqb-true b minus q)
+    by false q true r = rw (eqb-true b plus r)
+    by false q false r =
+        unsigned (λ h. let f : number (b ∷ s) ≡ none 3 = rw (q, r) (ended-none false 0 (leading (b ∷ s)) h) in let z : _≡_ {A = ℕ} 0 1 = cc in omega arith)
+
+-- no blank stands before a literal that is read
+pub literal-no-blank : (o : Options) (s : List ℕ) (c n : ℕ) → literal o s ≡ got c n → blanks s ≡ 0
+unfolding literal variable blanks
+literal-no-blank o [] c n e = refl
+literal-no-blank o (b ∷ s) c n e = by (isBlank b) refl
+  where
+    refused : (x : ℕ) → b ≡ x → literal o (x ∷ s) ≡ none 4 → ⊥
+    refused x q f = let z : _≡_ {A = ℕ} 0 1 = cc in omega arith
+
+    by : (t : Bool) → isBlank b ≡ t → blanks (b ∷ s) ≡ 0
+    by true q = absurd (⊎-elim (λ h. refused space (eqb-true b space h) refl) (λ h. refused tab (eqb-true b tab h) refl) (either (eqb b space) (eqb b tab) q))
+    by false q = rw (q, blanks)
+
+-- a byte above a space is no blank
+pub above-no-blank : (s : List ℕ) → space < getD s 0 0 → blanks s ≡ 0
+unfolding blanks
+above-no-blank [] h = absurd (omega arith)
+above-no-blank (b ∷ s) h = rw (ne-eqb b space (λ e. omega arith), ne-eqb b tab (λ e. omega arith), blanks)
+
+-- a space with no blank behind it
+pub single-blank : (s : List ℕ) (k : ℕ) → k < length s → getD s k 0 ≡ space → blanks (drop (k + 1) s) ≡ 0 → blanks (drop k s) ≡ 1
+single-blank s k h e f = ap blanks (drop-cons s k 0 h) ∙ rw e (one-space (drop (suc k) s) (rw (← add-one k) f))
+
+-- ---- a term
+module _ (o : Options) (s : List ℕ) (k j : ℕ) (w : ℤ) (c : ℕ) where
+  after-weight : blanks (drop k s) ≡ 1 → literal o (drop (k + 1) s) ≡ got c j → blanks (drop (k + 1 + j) s) ≡ 1 → afterWeight o w (drop k s) ≡ got (term w c) (1 + (j + (1 + 0)))
+  unfolding afterWeight chain gap1 gap done
+  after-weight b l d = rw (b, drop-drop 1 k s, l, drop-drop j (k + 1) s, d)
+
+  -- a weight of k bytes, a space, a literal of j bytes, a space, and a byte above a space
+  pub term-there : k < length s → number s ≡ got w k → getD s k 0 ≡ space → literal o (drop (k + 1) s) ≡ got c j → k + 1 + j < length s → getD s (k + 1 + j) 0 ≡ space
+      → (n : ℕ) → n ≡ k + j + 2 → space < getD s n 0 → termStep o s ≡ item (term w c) n
+  unfolding termStep weighted
+  term-there h e p l i q n t m =
+      let at : n ≡ k + 1 + j + 1 + 0 = omega arith in
+      let after : blanks (drop (k + 1 + j + 1) s) ≡ 0 = above-no-blank _ (rw (getD-drop (k + 1 + j + 1) s 0 0, ← at) m) in
+      let there = after-weight (single-blank s k h p (literal-no-blank o _ c j l)) l (single-blank s (k + 1 + j) i q after) in
+      rw (number-begins-term s w k e, termStep) (ap asStep (chain-got number _ s w k e ∙ ap (more k) there) ∙ ap (item (term w c)) (omega arith))
+
+-- ---- the words of a text
+drop-take : (n m : ℕ) (s : List ℕ) → n ≤ length s → drop n (take (n + m) s) ≡ take m (drop n s)
+drop-take n m s h = ap (drop n) (take-add n m s) ∙ drop-at (take n s) (take m (drop n s)) n (length-take-le n s h)
+
+-- of sixteen bytes, the eight behind the first n
+eight-behind : (n : ℕ) (s : List ℕ) → n ≤ 8 → n ≤ length s → take 8 (drop n (take 8 (drop 0 s) ++ take 8 (drop 8 s))) ≡ take 8 (drop n s)
+eight-behind n s h l =
+    let e : 8 + 8 ≡ n + (16 - n) = omega arith in
+    ap (λ (x : List ℕ). take 8 (drop n x)) (sym (take-add 8 8 s) ∙ ap (λ (m : ℕ). take m s) e)
+    ∙ ap (take 8) (drop-take n (16 - n) s l) ∙ take-take 8 (16 - n) (drop n s) (omega arith)
+
+pub shape-is : (s : List ℕ) (word g other next e : ℕ) → 24 ≤ length s → AtLane 1 6 g → AtLane 2 7 e → lanes 8 word ≡ take 8 (drop 0 s) → lanes 8 other ≡ take 8 (drop 8 s)
+    → lanes 8 next ≡ behind g word other → ShapeIs s word g next e
+shape-is s word g other next e h a b p q r =
+    let at : g / 8 + 1 ≡ a .place + 1 = omega (arith, a .is) in
+    record {
+      long = h;
+      gapped = a;
+      ended = b;
+      first = p;
+      second = r ∙ rw (p, q, at) (eight-behind (a .place + 1) s (omega (arith, a .most)) (omega (arith, a .most)));
+    }
+
+module _ {s : List ℕ} {word g next e : ℕ} (shape : ShapeIs s word g next e) where
+  -- the weight's word, with a space at the gap
+  weight-fronted : getD s (g / 8) 0 ≡ space → Fronted word (shape .gapped .place) s
+  weight-fronted p =
+      let at : shape .gapped .place ≡ g / 8 = omega (arith, shape .gapped .is) in
+      record { long = omega (arith, shape .long); bytes = shape .first; spaced = rw at p }
+
+  -- the literal's, with a space at the end
+  literal-fronted : getD s ((g + 8 + e) / 8 - 1) 0 ≡ space → Fronted next (shape .ended .place) (drop (shape .gapped .place + 1) s)
+  literal-fronted p =
+      let at : shape .gapped .place + 1 + shape .ended .place ≡ (g + 8 + e) / 8 - 1 = omega (arith, shape .gapped .is, shape .ended .is) in
+      record {
+        long = omega (arith, length-drop (shape .gapped .place + 1) s, shape .long, shape .gapped .most);
+        bytes = shape .second;
+        spaced = rw (getD-drop (shape .gapped .place + 1) s (shape .ended .place) 0, at) p;
+      }
+
+  -- a plain term: the bytes around its weight and its literal are as they should be
+  pub plain-is : (o : Options) (p : PlainTerm) → getD s (g / 8) 0 ≡ space → getD s ((g + 8 + e) / 8 - 1) 0 ≡ space → space < getD s ((g + 8 + e) / 8) 0
+      → WeightIs word (shape .gapped .place) (p .negative) (p .size) → LiteralIs next (shape .ended .place) (p .negated) (p .variable) → o .first ≤ laneValue (p .variable)
+      → PlainIs o s p ((g + 8 + e) / 8)
+  plain-is o p a b d weight lit h =
+      let k = shape .gapped .place in
+      let j = shape .ended .place in
+      let here : g / 8 ≡ k = omega (arith, shape .gapped .is) in
+      let there : (g + 8 + e) / 8 - 1 ≡ k + 1 + j = omega (arith, shape .gapped .is, shape .ended .is) in
+      record {
+        step =
+            term-there o s k j _ _ (omega (arith, shape .long, shape .gapped .most)) (weight .reads s (weight-fronted a)) (rw here at a)
+            (lit .reads o _ h (literal-fronted b)) (omega (arith, shape .long, shape .gapped .most, shape .ended .most)) (rw there at b) _
+            (omega (arith, shape .gapped .is, shape .ended .is)) d;
+        fits = record { size = weight .small; least = h; most = lit .small };
+      }

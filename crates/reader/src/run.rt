@@ -1,0 +1,64 @@
+// Plain terms one after the other: the loop where a file's time goes. Assumes nothing.
+use crate::plain::PlainRead;
+use crate::plain::PlainTerm;
+use definitions::Options;
+ghost use mathlib.Core.Path.{_≡_};
+ghost use Prim.Native.Nat.{_+_, _<_, _^_};
+ghost use lib.ListN.{length};
+ghost use Rattle.reader.specs.Fill.{TermPut};
+ghost use Rattle.reader.specs.Plain.{PlainFits, plainTerm};
+ghost use Rattle.reader.specs.Run.{RunSays};
+
+// How many terms are counted and what their absolute weights add up to, with those of a run; and the bytes that the run takes.
+pub struct PlainRun {
+    pub terms: usize,
+    pub size: u64,
+    pub taken: usize,
+}
+
+// A plain term at a place of two columns, if both have it.
+fn put_plain(weights: &mut [i64], literals: &mut [u32], at: usize, term: PlainTerm, first: u32)
+    requires { ⌜ PlainFits first term ⌝ }
+    ensures { λ _. ⌜ TermPut at (plainTerm first term .weight) (plainTerm first term .code) (now (weights .entry)) (now (literals .entry)) (now (weights .exit)) (now (literals .exit)) ⌝ }
+{
+    if at < columns::term_room(weights, literals) {
+        let size = term.size as i64;
+        weights[at] = if term.negative { -size } else { size };
+        let index = crate::word::lane_value(term.variable) as u32 - first;
+        literals[at] = if term.negated {
+            2 * index + 1
+        } else {
+            2 * index
+        };
+    }
+}
+
+// The plain terms at the front of s, one after the other, behind so many that are counted already.
+pub(crate) fn walk_plain(
+    s: &[u8],
+    options: Options,
+    weights: &mut [i64],
+    literals: &mut [u32],
+    from: usize,
+    before: u64,
+) -> PlainRun
+    requires { ⌜ from + length (now s) < 2 ^ 64 ⌝ }
+    ensures { λ r. ⌜ RunSays options (now (s .entry)) from before (now (weights .entry)) (now (literals .entry)) r (now (weights .exit)) (now (literals .exit)) ⌝ }
+{
+    let mut terms: usize = from;
+    let mut size: u64 = before;
+    let mut at: usize = 0;
+    loop {
+        let PlainRead::Plain { term, taken } = crate::plain::plain_term(&s[at..], options) else {
+            return PlainRun {
+                terms,
+                size,
+                taken: at,
+            };
+        };
+        put_plain(weights, literals, terms, term, options.first);
+        size = columns::add_size(size, term.size as i64);
+        terms += 1;
+        at += taken;
+    }
+}
