@@ -311,6 +311,38 @@ CASES = [
 ]
 
 
+# A term that files have most is a `-` or none, some digits, one space, `x` or `~x`, some digits, one space. Around it: each length of either number, each sign and negation, other blanks, bytes that differ from a digit in
+# one bit, every place of a first index, with much text behind it and with none.
+def terms_of_every_form():
+    much = b">= 1; * so much is behind the term"
+    for count in range(1, 11):
+        for sign in (b"", b"-", b"+"):
+            yield 1, sign + b"9876543210"[:count] + b" x1 " + much
+        for mark in (b"x", b"~x", b"-x"):
+            yield 1, b"1 " + mark + b"1023456789"[:count] + b" " + much
+    for first in (0, 1, 2, 7):
+        for number in (b"0", b"000", b"1", b"0001", b"2", b"6", b"7"):
+            yield first, b"-12 ~x" + number + b" 3 x8 " + much
+    for gap in (b"  ", b"\t", b" \t", b""):
+        yield 1, b"12" + gap + b"x34 5 x6 " + much
+        yield 1, b"12 x34" + gap + b"5 x6 " + much
+        yield 1, b"12 x34" + gap + much
+    for byte in b"/:;.\x00\x10\x20\x70\xb0\xb9\xff\r\n":
+        yield 1, b"1" + bytes([byte]) + b"3 x1 " + much
+        yield 1, b"-" + bytes([byte]) + b"3 x1 " + much
+        yield 1, b"12 x4" + bytes([byte]) + b"6 " + much
+        yield 1, b"12 ~x" + bytes([byte]) + b"6 " + much
+        yield 1, b"12" + bytes([byte]) + b"x6 " + much
+        yield 1, b"12 x6" + bytes([byte]) + much
+    for behind in range(0, 25):
+        yield 1, b"-2608 x1401 -783 ~x5187 >= -1;" + b" " * behind
+    for text in (b"- x1 ", b"-1 ~x ", b"-1 x ", b"1 ~1 ", b"1 ~~x1 ", b"1 xx1 ", b"1 x~1 ", b"1 1 ", b"--1 x1 ", b"12345678"):
+        yield 1, text + much
+
+
+CASES += [(room(2, 3), first, data) for first, data in terms_of_every_form()]
+
+
 def main():
     with open(sys.argv[1] + "/stdin", "w") as given, open(sys.argv[1] + "/stdout", "w") as wanted:
         for sizes, first, data in CASES:

@@ -1,4 +1,4 @@
--- Laws of printing: any text that fits or does not, the digits of a number from the last one on, a sign before them, and a text byte by byte.
+-- Laws of printing: any text that fits or does not, the digits of a number from the last ones on, a sign before them, and a text byte by byte.
 use mathlib.Core.Path.{_≡_, refl, sym, ap, _∙_}
 use mathlib.Core.Bool.{Bool, true, false, not, cond}
 use mathlib.Core.List.{List, [], _∷_, _++_, append-assoc, append-nil}
@@ -11,13 +11,14 @@ use borrow.Author.Tests.{le-leb, lt-leb, le-ltb, leb-true, not-true, not-false}
 use lib.ListN.{length, getD, take, drop, set, length-set, take-append-drop}
 use lib.IntN.{ℤ, pos, negsuc, natAbs}
 use lib.Signed.{ltZ}
-use lib.Seq.{take-suc, set-at, length-take-le, drop-at, drop-length, take-length, take-suc-set, take-set-le, drop-set-lt, paste, paste-zero, paste-suc}
+use lib.Seq.{length-take-le, take-append-le, take-take, drop-at, drop-length, take-length, take-suc-set, take-set-le, drop-set-lt, paste, paste-zero, paste-suc}
 use Rattle.definitions.specs.Bytes.{minus}
 use Rattle.definitions.specs.Number.{decimal, integerText}
 use Rattle.definitions.specs.Output.{putAt, putIn}
-use Rattle.definitions.proofs.Numbers.{decimal-small, decimal-big, decimal-length-small, decimal-length-big, decimal-some}
-use Rattle.numbers.specs.Print.{Prints, signedText}
+use Rattle.definitions.proofs.Numbers.{decimal-length-small, decimal-length-big, decimal-some}
+use Rattle.numbers.specs.Print.{Prints, signedText, fourDigits}
 use Rattle.numbers.specs.declared.Put.the-variants.{Done, Full}
+use Rattle.numbers.proofs.Four.{decimal-fours, decimal-length-fours}
 
 -- ---- any text
 
@@ -126,13 +127,7 @@ module _ (m n power : ℕ) (w : Counting m n power) where
       counting-more =
           rw add-one (record { is = ap (λ (p : ℕ). p * 10) (w .is); some = omega arith; most = omega (arith, before-last); least = omega (arith, one-more) })
 
--- ---- the digits of m, from the last one on
-
--- a store in front of what is already written
-put-one : (o : List ℕ) (j : ℕ) (t : List ℕ) (d : ℕ) → j < length o → set (take (j + 1) o ++ t) j d ≡ take j o ++ (d ∷ t)
-put-one o j t d h =
-    let l : length (take j o) ≡ j = length-take-le j o (omega arith) in
-    rw (add-one j, take-suc o j 0 h) (simp append-assoc (set-at (take j o) (getD o j 0) t d j l))
+-- ---- the digits of m, from the last ones on
 
 -- what the walk has done when x is left, and k digits are still to be written
 pub record Writing (o : List ℕ) (m at n : ℕ) (out : List ℕ) (x k : ℕ) : Type 0 where
@@ -156,32 +151,50 @@ writing-none o m at n e h =
     }
 
 module _ (o : List ℕ) (m at n : ℕ) (out : List ℕ) (x k : ℕ) (w : Writing o m at n out x k) where
-  pub writing-more : 10 ≤ x → Writing o m at n (set out (at + (k - 1)) (48 + x % 10)) (x / 10) (k - 1)
-  writing-more h =
-      let t = drop k (decimal m) in
-      let d = 48 + x % 10 in
-      let j : k - 1 ≡ length (decimal (x / 10)) = omega (arith, w .left, decimal-length-big x h) in
-      let big = decimal-big x h in
-      let s : decimal m ≡ decimal (x / 10) ++ (d ∷ t) = w .split ∙ rw (big, append-assoc) in
-      let u : drop (k - 1) (decimal m) ≡ d ∷ t = ap (drop (k - 1)) s ∙ drop-at (decimal (x / 10)) (d ∷ t) (k - 1) (sym j) in
-      let i : at + k ≡ at + (k - 1) + 1 = omega (arith, w .left, decimal-length-big x h) in
-      let g : at + (k - 1) < length o = omega (arith, w .left, w .most, w .room, decimal-length-big x h) in
-      record {
-        left = j;
-        most = omega (arith, w .most);
-        room = w .room;
-        split = rw u s;
-        text = rw (w .text, i, u) (put-one o (at + (k - 1)) (t ++ drop (at + n) o) d g);
-        long = rw length-set (w .long);
-      }
+  -- what stands before the digits that are written
+  written-before : (j : ℕ) → j ≤ at + k → take j out ≡ take j o
+  written-before j h =
+      let l : length (take (at + k) o) ≡ at + k = length-take-le (at + k) o (omega (arith, w .most, w .room)) in
+      rw (w .text) (take-append-le j (take (at + k) o) _ (omega arith) ∙ take-take j (at + k) o h)
 
-  pub writing-last : x < 10 → set out at (48 + x) ≡ take at o ++ (decimal m ++ drop (at + n) o)
-  writing-last h =
-      let e : k ≡ 1 = w .left ∙ decimal-length-small x h in
-      let s : decimal m ≡ (48 + x) ∷ drop 1 (decimal m) = rw (decimal-small x h, e) at (w .split) in
-      let g : at < length o = omega (arith, w .most, w .room) in
-      rw (w .text, e)
-      (put-one o at (drop 1 (decimal m) ++ drop (at + n) o) (48 + x) g ∙ ap (λ (l : List ℕ). take at o ++ (l ++ drop (at + n) o)) (sym s))
+  -- and from them on
+  written-rest : drop (at + k) out ≡ drop k (decimal m) ++ drop (at + n) o
+  written-rest =
+      rw (w .text)
+      (drop-at (take (at + k) o) _ (at + k) (length-take-le (at + k) o (omega (arith, w .most, w .room))))
+
+  module _ (h : 10_000 ≤ x) where
+    pub writing-some : (4 ≤ k) × (at + (k - 4) + 4 ≤ length out)
+    writing-some = (omega (arith, w .left, decimal-length-fours x h), omega (arith, w .left, w .most, w .room, w .long, decimal-length-fours x h))
+
+    pub writing-more : (out′ : List ℕ)
+        → out′ ≡ take (at + (k - 4)) out ++ (fourDigits (x % 10_000) ++ drop (at + (k - 4) + 4) out) → length out′ ≡ length out
+        → Writing o m at n out′ (x / 10_000) (k - 4)
+    writing-more out′ e g =
+        let t = drop k (decimal m) in
+        let ds = fourDigits (x % 10_000) in
+        let j : k - 4 ≡ length (decimal (x / 10_000)) = omega (arith, w .left, decimal-length-fours x h) in
+        let s : decimal m ≡ decimal (x / 10_000) ++ (ds ++ t) = w .split ∙ rw (decimal-fours x h, append-assoc) in
+        let u : drop (k - 4) (decimal m) ≡ ds ++ t = ap (drop (k - 4)) s ∙ drop-at (decimal (x / 10_000)) (ds ++ t) (k - 4) (sym j) in
+        let i : at + (k - 4) + 4 ≡ at + k = omega (arith, writing-some .0) in
+        record {
+          left = j;
+          most = omega (arith, w .most);
+          room = w .room;
+          split = rw u s;
+          text = e ∙ rw (i, written-before (at + (k - 4)) (omega arith), written-rest, u);
+          long = g ∙ w .long;
+        }
+
+  pub writing-room : at + length (decimal x) ≤ length out
+  writing-room = omega (arith, w .left, w .most, w .room, w .long)
+
+  pub writing-last : (out′ : List ℕ) → out′ ≡ take at out ++ (decimal x ++ drop (at + length (decimal x)) out)
+      → out′ ≡ take at o ++ (decimal m ++ drop (at + n) o)
+  writing-last out′ e =
+      let r = drop (at + n) o in
+      let s : decimal x ++ (drop k (decimal m) ++ r) ≡ decimal m ++ r = sym (append-assoc (decimal x) _ r) ∙ ap (λ (l : List ℕ). l ++ r) (sym (w .split)) in
+      e ∙ rw (← w .left, written-before at (omega arith), written-rest, s)
 
 -- ---- a sign or none, and then the digits behind it
 

@@ -10,7 +10,7 @@ ghost use lib.IntN.{natAbs};
 ghost use Rattle.definitions.specs.Limits.{inI64};
 ghost use Rattle.definitions.specs.Number.{leading, signed, ended, number, decimal, integerText};
 ghost use Rattle.numbers.specs.Read.{said, runOf};
-ghost use Rattle.numbers.specs.Print.{Prints, signedText};
+ghost use Rattle.numbers.specs.Print.{Prints, signedText, placesOf, fourDigits, fourBytes};
 
 // What stands at the front of a part: a number and how many bytes it takes, or none.
 pub enum NumberRead {
@@ -118,8 +118,29 @@ pub fn magnitude(z: i64) -> u64
     }
 }
 
+// Where the hundreds, the tens and the ones of a number below 10,000 stand in its text, counted from its first digit. A digit that would be a zero in front has the place of the one behind it.
+struct Places {
+    hundreds: usize,
+    tens: usize,
+    ones: usize,
+}
+
+// Found without a branch: how long the next number is can't be foreseen.
+fn places_of(m: u32) -> Places
+    ensures { λ r. ⌜ r ≡ placesOf m ⌝ }
+{
+    let hundreds = (m >= 1_000) as usize;
+    let tens = hundreds + (m >= 100) as usize;
+    let ones = tens + (m >= 10) as usize;
+    Places {
+        hundreds,
+        tens,
+        ones,
+    }
+}
+
 // How many powers of ten are at most m, found without a division.
-pub fn count_length(m: u64) -> usize
+fn long_length(m: u64) -> usize
     ensures { λ r. ⌜ r ≡ length (decimal m) ⌝ }
 {
     let mut n: usize = 1;
@@ -133,6 +154,16 @@ pub fn count_length(m: u64) -> usize
         power = power * 10;
     }
     n
+}
+
+pub fn count_length(m: u64) -> usize
+    ensures { λ r. ⌜ r ≡ length (decimal m) ⌝ }
+{
+    if m >= 10_000 {
+        return long_length(m);
+    }
+    let p = places_of(m as u32);
+    p.ones + 1
 }
 
 pub fn number_length(z: i64) -> usize
@@ -158,26 +189,64 @@ fn has_room(n: usize, at: usize, room: usize) -> bool
     n <= room - at
 }
 
-// The n digits of m, from `at` on, the last one first.
+// The four digits of a number below 10,000 as bytes, the first one lowest: pairs of digits, then digits, two of each at once.
+fn four_digits(m: u32) -> u32
+    requires { ⌜ m < 10_000 ⌝ }
+    ensures { λ r. ⌜ r ≡ fourBytes m ⌝ }
+{
+    let high = m / 100;
+    let low = m - 100 * high;
+    let pairs = high + 65_536 * low;
+    let tens = (pairs * 103 / 1_024) & 0x000f_000f;
+    let ones = pairs - 10 * tens;
+    tens + 256 * ones + 0x3030_3030
+}
+
+// The four digits of m, zeros in front included.
+fn put_four(m: u32, out: &mut [u8], at: usize)
+    requires { ⌜ (m < 10_000) × (at + 4 ≤ length (now out)) ⌝ }
+    ensures { λ _. ⌜ now (out .exit) ≡ take at (now (out .entry)) ++ (fourDigits m ++ drop (at + 4) (now (out .entry))) ⌝ }
+{
+    let d = four_digits(m);
+    out[at] = (d & 0xff) as u8;
+    out[at + 1] = ((d >> 8) & 0xff) as u8;
+    out[at + 2] = ((d >> 16) & 0xff) as u8;
+    out[at + 3] = (d >> 24) as u8;
+}
+
+// The digits of a number below 10,000. A zero in front is written over by the digit behind it.
+fn put_few(m: u32, p: Places, out: &mut [u8], at: usize)
+    requires { ⌜ (m < 10_000) × (p ≡ placesOf m) × (at + length (decimal m) ≤ length (now out)) ⌝ }
+    ensures { λ _. ⌜ now (out .exit) ≡ take at (now (out .entry)) ++ (decimal m ++ drop (at + length (decimal m)) (now (out .entry))) ⌝ }
+{
+    let d = four_digits(m);
+    out[at] = (d & 0xff) as u8;
+    out[at + p.hundreds] = ((d >> 8) & 0xff) as u8;
+    out[at + p.tens] = ((d >> 16) & 0xff) as u8;
+    out[at + p.ones] = (d >> 24) as u8;
+}
+
+// The n digits of m, from `at` on, the last four first.
 fn put_digits(m: u64, out: &mut [u8], at: usize, n: usize)
     requires { ⌜ (n ≡ length (decimal m)) × (at + n ≤ length (now out)) ⌝ }
     ensures { λ _. ⌜ now (out .exit) ≡ take at (now (out .entry)) ++ (decimal m ++ drop (at + n) (now (out .entry))) ⌝ }
 {
     let mut x = m;
     let mut k = n;
-    while x >= 10 {
-        k -= 1;
-        out[at + k] = b'0' + (x % 10) as u8;
-        x = x / 10;
+    while x >= 10_000 {
+        k -= 4;
+        put_four((x % 10_000) as u32, out, at + k);
+        x = x / 10_000;
     }
-    out[at] = b'0' + x as u8;
+    let few = x as u32;
+    put_few(few, places_of(few), out, at);
 }
 
 // A `-` or none, and then the digits of m.
-fn print_signed(negative: bool, m: u64, out: &mut [u8], at: usize) -> Put
+fn print_long(negative: bool, m: u64, out: &mut [u8], at: usize) -> Put
     ensures { λ r. ⌜ Prints (signedText negative m) at (now (out .entry)) r (now (out .exit)) ⌝ }
 {
-    let n = count_length(m);
+    let n = long_length(m);
     let k: usize = if negative { 1 } else { 0 };
     if !has_room(n + k, at, out.len()) {
         return Put::Full;
@@ -188,16 +257,40 @@ fn print_signed(negative: bool, m: u64, out: &mut [u8], at: usize) -> Put
     Put::Done(at + k + n)
 }
 
+// The same for the numbers that most files have, with no loop and no branch but for the room.
+fn print_few(negative: bool, m: u32, out: &mut [u8], at: usize) -> Put
+    requires { ⌜ m < 10_000 ⌝ }
+    ensures { λ r. ⌜ Prints (signedText negative m) at (now (out .entry)) r (now (out .exit)) ⌝ }
+{
+    let p = places_of(m);
+    let n = p.ones + 1;
+    let k: usize = if negative { 1 } else { 0 };
+    if !has_room(n + k, at, out.len()) {
+        return Put::Full;
+    }
+    out[at] = b'-';
+    put_few(m, p, out, at + k);
+    Put::Done(at + k + n)
+}
+
 pub fn print_count(m: u64, out: &mut [u8], at: usize) -> Put
     ensures { λ r. ⌜ Prints (decimal m) at (now (out .entry)) r (now (out .exit)) ⌝ }
 {
-    print_signed(false, m, out, at)
+    if m >= 10_000 {
+        return print_long(false, m, out, at);
+    }
+    print_few(false, m as u32, out, at)
 }
 
 pub fn print_number(value: i64, out: &mut [u8], at: usize) -> Put
     ensures { λ r. ⌜ Prints (integerText value) at (now (out .entry)) r (now (out .exit)) ⌝ }
 {
-    print_signed(value < 0, magnitude(value), out, at)
+    let negative = value < 0;
+    let m = magnitude(value);
+    if m >= 10_000 {
+        return print_long(negative, m, out, at);
+    }
+    print_few(negative, m as u32, out, at)
 }
 
 pub fn print_text(text: &[u8], out: &mut [u8], at: usize) -> Put

@@ -7,15 +7,15 @@ use native.Mathlib.Nat.{mod-lt, mul-assoc, mul-le-mul-right, pow-succ', suc-add}
 use native.Mathlib.Decide.{decLe}
 use native.Mathlib.Omega.{arith}
 use borrow.Author.Tests.{leb-true, le-leb, lt-leb, eq-eqb, ne-eqb}
-use lib.Arith.{mod-mul}
 use lib.Bits.{bitAnd, bitXor, and-block, and-high, and-zero-r, xor-shr, xor-mod, xor-add-and}
 use lib.Dec.{leb, eqb, lit<}
 use lib.ListN.{length, take, replicate}
-use lib.Pow.{pow-pos, pow-add, split}
+use lib.Pow.{pow-pos, split}
 use Rattle.definitions.specs.Bytes.{isDigit}
 use Rattle.definitions.specs.Number.{value, valueOn}
 use Rattle.definitions.proofs.Truths.{both}
 use Rattle.reader.specs.Lanes.{lanes, allBytes, digitLanes, InLanes, DigitsAre}
+use Rattle.reader.proofs.Lanes.{lane-pow, lanes-take, lanes-mod}
 
 -- from 0 to 9
 abbrev small : ℕ → Bool
@@ -77,16 +77,12 @@ digits-tested (suc n) y e =
     rw (tops-of (y + nines (suc n)) (tops n), q .0, q .1)
     (lane-tested (bitAnd (y / 256 + nines n) (tops n)) (y % 256) (p .0) ∙ ap (λ (t : Bool). small (y % 256) && t) (digits-tested n (y / 256) (p .1)))
 
--- the numbers of one lane more
-pow-lanes : (n : ℕ) → 2 ^ (8 * suc n) ≡ 2 ^ (8 * n) * 256
-pow-lanes n = let e : 8 * suc n ≡ 8 * n + 8 = omega arith in ap (λ (x : ℕ). 2 ^ x) e ∙ pow-add 2 (8 * n) 8
-
 -- and the sums stay in the lanes
 nines-fit : (n y : ℕ) → y < 2 ^ (8 * n) → bitAnd y (tops n) ≡ 0 → y + nines n < 2 ^ (8 * n)
 unfolding nines
 nines-fit zero y h e = omega arith
 nines-fit (suc n) y h e =
-    let w = pow-lanes n in
+    let w = lane-pow n in
     let p = no-tops n y e in
     let l : y / 256 < 2 ^ (8 * n) = omega arith in
     omega (arith, nines-fit n (y / 256) l (p .1))
@@ -111,28 +107,13 @@ pub sums-fit : (y : ℕ) → y < 2 ^ 64 → bitAnd y 0x8080_8080_8080_8080 ≡ 0
 unfolding tops nines
 sums-fit y h e = nines-fit 8 y h e
 
--- ---- the lanes of a number that is cut, shifted or masked
+-- ---- a number shifted by m lanes
 
-pub lanes-take : (n k y : ℕ) → n ≤ k → take n (lanes k y) ≡ lanes n y
-unfolding lanes
-lanes-take zero k y h = refl
-lanes-take (suc n) zero y h = absurd (omega arith)
-lanes-take (suc n) (suc k) y h = ap (λ (s : List ℕ). y % 256 ∷ s) (lanes-take n k (y / 256) (omega arith))
-
--- what is above the lanes does not matter
-pub lanes-mod : (n y : ℕ) → lanes n (y % 2 ^ (8 * n)) ≡ lanes n y
-unfolding lanes
-lanes-mod zero y = refl
-lanes-mod (suc n) y =
-    let e : y % 2 ^ (8 * suc n) ≡ y / 256 % 2 ^ (8 * n) * 256 + y % 256 = ap (λ (x : ℕ). y % x) (pow-lanes n) ∙ mod-mul y (pow-pos (8 * n)) (lit< tt) in
-    ap₂ (λ (b : ℕ) (s : List ℕ). b ∷ s) (omega arith) (ap (lanes n) (omega arith) ∙ lanes-mod n (y / 256))
-
--- a number shifted by m lanes
-pub lanes-shifted : (m n y : ℕ) → lanes (m + n) (y * 2 ^ (8 * m)) ≡ replicate m 0 ++ lanes n y
+lanes-shifted : (m n y : ℕ) → lanes (m + n) (y * 2 ^ (8 * m)) ≡ replicate m 0 ++ lanes n y
 unfolding lanes
 lanes-shifted zero n y = let p : 0 + n ≡ n = omega arith in let e : y * 1 ≡ y = omega arith in ap₂ lanes p e
 lanes-shifted (suc m) n y =
-    let e : y * 2 ^ (8 * suc m) ≡ y * 2 ^ (8 * m) * 256 = ap (λ (x : ℕ). y * x) (pow-lanes m) ∙ sym (mul-assoc y (2 ^ (8 * m)) 256) in
+    let e : y * 2 ^ (8 * suc m) ≡ y * 2 ^ (8 * m) * 256 = ap (λ (x : ℕ). y * x) (lane-pow m) ∙ sym (mul-assoc y (2 ^ (8 * m)) 256) in
     rw (suc-add m n)
     (ap₂ (λ (b : ℕ) (s : List ℕ). b ∷ s) (omega arith) (ap (lanes (m + n)) (omega arith) ∙ lanes-shifted m n y))
 

@@ -36,8 +36,15 @@ unfolding lanes
 lanes-length zero y = refl
 lanes-length (suc n) y = ap suc (lanes-length n (y / 256))
 
-lane-pow : (n : ℕ) → 2 ^ (8 * suc n) ≡ 2 ^ (8 * n) * 256
+-- the numbers of one lane more
+pub lane-pow : (n : ℕ) → 2 ^ (8 * suc n) ≡ 2 ^ (8 * n) * 256
 lane-pow n = ap (λ (k : ℕ). 2 ^ k) (mul-suc 8 n) ∙ pow-add 2 (8 * n) 8
+
+pub lanes-take : (n k y : ℕ) → n ≤ k → take n (lanes k y) ≡ lanes n y
+unfolding lanes
+lanes-take zero k y h = refl
+lanes-take (suc n) zero y h = absurd (omega arith)
+lanes-take (suc n) (suc k) y h = ap (λ (s : List ℕ). y % 256 ∷ s) (lanes-take n k (y / 256) (omega arith))
 
 lanes-one : (a : ℕ) → a < 256 → lanes 1 a ≡ a ∷ []
 unfolding lanes

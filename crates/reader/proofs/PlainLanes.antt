@@ -1,20 +1,13 @@
 -- Laws of the lanes of a word: its first bytes, and those of the word shifted by a lane or two.
-use mathlib.Core.Path.{_≡_, refl, sym, ap, _∙_}
+use mathlib.Core.Path.{_≡_, sym, ap, _∙_}
 use mathlib.Core.List.{List, [], _∷_}
-use Prim.Native.Nat.{ℕ, zero, suc, _+_, _-_, _*_, _/_, _%_, _≤_}
+use Prim.Native.Nat.{ℕ, suc, _+_, _-_, _*_, _/_, _%_, _≤_}
 use native.Mathlib.Omega.{arith}
 use lib.Bits.{bitAnd, and-mask}
 use lib.ListN.{take, drop, getD}
 use lib.Seq.{take-take}
 use Rattle.reader.specs.Lanes.{lanes, InLanes, AtLane}
-
--- how many lanes there are does not matter to those in front
-front-lanes : (m n k w : ℕ) → m ≤ n → m ≤ k → take m (lanes n w) ≡ take m (lanes k w)
-unfolding lanes
-front-lanes zero n k w h g = refl
-front-lanes (suc m) zero k w h g = absurd (omega arith)
-front-lanes (suc m) (suc n) zero w h g = absurd (omega arith)
-front-lanes (suc m) (suc n) (suc k) w h g = rw (front-lanes m n k (w / 256) (omega arith) (omega arith))
+use Rattle.reader.proofs.Lanes.{lanes-take}
 
 -- a text that begins with the lanes of w: its first byte, and what is behind that
 pub head-lane : (n w : ℕ) (s : List ℕ) → lanes (suc n) w ≡ take (suc n) s → getD s 0 0 ≡ w % 256
@@ -29,7 +22,7 @@ tail-lanes n w (b ∷ s) e = cc
 
 -- the first m of them, out of any number of lanes
 pub take-lanes : (m n k w : ℕ) (s : List ℕ) → m ≤ n → m ≤ k → lanes n w ≡ take n s → take m (lanes k w) ≡ take m s
-take-lanes m n k w s h g e = front-lanes m k n w g h ∙ ap (take m) e ∙ take-take m n s h
+take-lanes m n k w s h g e = lanes-take m k w g ∙ sym (lanes-take m n w h) ∙ ap (take m) e ∙ take-take m n s h
 
 -- ---- tests of the first lanes
 

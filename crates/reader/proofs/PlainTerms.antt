@@ -6,7 +6,7 @@ use mathlib.Core.Logic.{⊎-elim}
 use mathlib.Core.List.{List, [], _∷_, _++_}
 use native.Mathlib.Omega.{arith}
 use native.Mathlib.Numerals.{add-one}
-use borrow.Author.Tests.{eqb-true, ne-eqb}
+use borrow.Author.Tests.{eqb-true, ne-eqb, ltb-true}
 use lib.Dec.{eqb}
 use lib.ListN.{length, take, drop, getD, length-drop}
 use lib.Seq.{length-take-le, drop-cons, drop-at, drop-drop, take-take, take-add, getD-drop}
@@ -19,11 +19,12 @@ use Rattle.definitions.specs.Row.{term}
 use Rattle.definitions.specs.Text.{gap, gap1, variable, literal, afterWeight, weighted, beginsTerm, asStep, termStep}
 use Rattle.definitions.specs.declared.Options.{Options}
 use Rattle.definitions.proofs.Texts.{either}
+use Rattle.definitions.proofs.Truths.{both}
 use Rattle.definitions.proofs.Chains.{chain-got}
 use Rattle.definitions.proofs.Numbers.{ended-none}
 use Rattle.definitions.proofs.Readback.{digit-begins, one-space}
 use Rattle.reader.specs.Lanes.{lanes, laneValue, AtLane, behind}
-use Rattle.reader.specs.Plain.{ShapeIs, Fronted, WeightIs, LiteralIs, PlainIs}
+use Rattle.reader.specs.Plain.{ShapeIs, Fronted, WeightIs, LiteralIs, PlainIs, spaced}
 use Rattle.reader.specs.declared.plain.PlainTerm.{PlainTerm}
 
 -- ---- what stands at the front
@@ -65,6 +66,13 @@ above-no-blank (b ∷ s) h = rw (ne-eqb b space (λ e. omega arith), ne-eqb b ta
 -- a space with no blank behind it
 pub single-blank : (s : List ℕ) (k : ℕ) → k < length s → getD s k 0 ≡ space → blanks (drop (k + 1) s) ≡ 0 → blanks (drop k s) ≡ 1
 single-blank s k h e f = ap blanks (drop-cons s k 0 h) ∙ rw e (one-space (drop (suc k) s) (rw (← add-one k) f))
+
+-- what the test of three bytes says of them
+spaced-bytes : (s : List ℕ) (gap end : ℕ) → spaced s gap end ≡ true → (getD s gap 0 ≡ space) × (getD s (end - 1) 0 ≡ space) × (space < getD s end 0)
+spaced-bytes s gap end t =
+    let p = both (eqb (getD s gap 0) space) _ t in
+    let q = both (eqb (getD s (end - 1) 0) space) _ (p .1) in
+    (eqb-true (getD s gap 0) space (p .0), eqb-true (getD s (end - 1) 0) space (q .0), ltb-true space (getD s end 0) (q .1))
 
 -- ---- a term
 module _ (o : Options) (s : List ℕ) (k j : ℕ) (w : ℤ) (c : ℕ) where
@@ -123,10 +131,14 @@ module _ {s : List ℕ} {word g next e : ℕ} (shape : ShapeIs s word g next e) 
       }
 
   -- a plain term: the bytes around its weight and its literal are as they should be
-  pub plain-is : (o : Options) (p : PlainTerm) → getD s (g / 8) 0 ≡ space → getD s ((g + 8 + e) / 8 - 1) 0 ≡ space → space < getD s ((g + 8 + e) / 8) 0
+  pub plain-is : (o : Options) (p : PlainTerm) → spaced s (g / 8) ((g + 8 + e) / 8) ≡ true
       → WeightIs word (shape .gapped .place) (p .negative) (p .size) → LiteralIs next (shape .ended .place) (p .negated) (p .variable) → o .first ≤ laneValue (p .variable)
       → PlainIs o s p ((g + 8 + e) / 8)
-  plain-is o p a b d weight lit h =
+  plain-is o p t weight lit h =
+      let bytes = spaced-bytes s (g / 8) ((g + 8 + e) / 8) t in
+      let a = bytes .0 in
+      let b = bytes .1 in
+      let d = bytes .2 in
       let k = shape .gapped .place in
       let j = shape .ended .place in
       let here : g / 8 ≡ k = omega (arith, shape .gapped .is) in

@@ -1,8 +1,9 @@
 -- What is said of a term in its plain form. An answer that is no term says nothing: the pieces read that text.
 use Prim.Native.Nat.{ℕ, _+_, _-_, _≤_, _<_}
 use mathlib.Core.Path.{_≡_}
-use mathlib.Core.Bool.{Bool}
+use mathlib.Core.Bool.{Bool, _&&_}
 use mathlib.Core.List.{List}
+use lib.Dec.{eqb, ltb}
 use lib.ListN.{length, take, drop, getD}
 use Rattle.definitions.specs.Bytes.{space}
 use Rattle.definitions.specs.Reader.{got}
@@ -60,6 +61,11 @@ LiteralSays word end literals.Other = Unit {0}
 LiteralSays word end (literals.Literal negated variable) = (at : AtLane 2 7 end) → LiteralIs word (at .place) negated variable
 
 -- ---- a plain term
+
+-- a space at the gap, one before the end, and no blank at the end: a blank is at most a space
+abbrev pub spaced : List ℕ → ℕ → ℕ → Bool
+spaced s gap end = eqb (getD s gap 0) space && (eqb (getD s (end - 1) 0) space && ltb space (getD s end 0))
+
 abbrev pub plainTerm : ℕ → PlainTerm → Term
 plainTerm first p = term (signed (p .negative) (p .size)) (codeOf (p .negated) (laneValue (p .variable) - first))
 

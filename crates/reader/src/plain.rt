@@ -2,8 +2,11 @@
 // left to the pieces. Assumes nothing.
 use crate::word::Digits;
 use definitions::Options;
+ghost use mathlib.Core.Path.{_≡_};
+ghost use Prim.Native.Nat.{_≤_, _<_};
+ghost use lib.ListN.{length};
 ghost use Rattle.reader.specs.Lanes.{AtLane};
-ghost use Rattle.reader.specs.Plain.{ShapeSays, WeightSays, LiteralSays, PlainSays};
+ghost use Rattle.reader.specs.Plain.{ShapeSays, WeightSays, LiteralSays, PlainSays, spaced};
 
 // A term whose weight has a sign and a size. The digits of its variable are still in lanes: only a walk that fills columns needs their number.
 pub struct PlainTerm {
@@ -129,6 +132,20 @@ fn literal_in(word: u64, end: u32) -> PlainLiteral
     }
 }
 
+// A space behind the weight, one behind the literal, and no blank where the next term may begin.
+fn is_spaced(s: &[u8], gap: usize, end: usize) -> bool
+    requires { ⌜ (gap < length (now s)) × (1 ≤ end) × (end < length (now s)) ⌝ }
+    ensures { λ r. ⌜ r ≡ spaced (now (s .entry)) gap end ⌝ }
+{
+    if s[gap] != b' ' {
+        return false;
+    }
+    if s[end - 1] != b' ' {
+        return false;
+    }
+    b' ' < s[end]
+}
+
 // The term at the front of s, if it is plain. A file number above 0 is not below the first index 0 or 1; with another first index no term is plain.
 pub(crate) fn plain_term(s: &[u8], options: Options) -> PlainRead
     ensures { λ r. ⌜ PlainSays options (now (s .entry)) r ⌝ }
@@ -142,15 +159,8 @@ pub(crate) fn plain_term(s: &[u8], options: Options) -> PlainRead
     else {
         return PlainRead::Other;
     };
-    let k = (gap >> 3) as usize;
-    if s[k] != b' ' {
-        return PlainRead::Other;
-    }
-    let n = ((gap + 8 + end) >> 3) as usize;
-    if s[n - 1] != b' ' {
-        return PlainRead::Other;
-    }
-    if s[n] <= b' ' {
+    let taken = ((gap + 8 + end) >> 3) as usize;
+    if !is_spaced(s, (gap >> 3) as usize, taken) {
         return PlainRead::Other;
     }
     let PlainWeight::Weight { negative, size } = weight_in(weight, gap) else {
@@ -172,6 +182,6 @@ pub(crate) fn plain_term(s: &[u8], options: Options) -> PlainRead
             negated,
             variable,
         },
-        taken: n,
+        taken,
     }
 }

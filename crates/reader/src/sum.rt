@@ -54,9 +54,7 @@ pub(crate) fn walk_sum(
                     taken: at,
                 };
             }
-            NextTerm::Refused(e) => {
-                return SumRead::Refused(e);
-            }
+            NextTerm::Refused(e) => return SumRead::Refused(e),
             NextTerm::Term {
                 weight,
                 literal,

@@ -1,46 +1,39 @@
--- `count_length` meets its contract: the loop goes through the powers of ten that are at most m (`Counting`, proofs/Print.antt).
+-- `count_length` meets its contract: below 10,000 the ones stand at the end of the text (`last-place`, proofs/Four.antt).
+use borrow.Author.Needs.{needs}
 use native.Mathlib.Omega.{arith}
-use Prim.Native.Nat.{_-_}
-use Rattle.numbers.proofs.Print.{Counting, counting-start, counting-end, counting-last, counting-small, counting-more}
+use mathlib.Core.Path.{_≡_}
+use Prim.Native.Nat.{_+_}
+use lib.ListN.{length}
+use Rattle.definitions.specs.Number.{decimal}
+use Rattle.definitions.proofs.Numbers.{decimal-length-most}
+use Rattle.numbers.proofs.Four.{last-place}
 use Rattle.numbers.proofs.count_length.Statement.{statement}
 use Rattle.numbers.proofs.count_length.Tie as tie
 
-abbrev Inv-loop : tie.InvT-loop
-Inv-loop m n₀ power₀ n power = Counting m n power
+counted : (c : tie.After-places-of) → c .places-of .result .ones + 1 ≡ length (decimal (c .before .before .args .m))
+counted c = last-place (c .before .before .args .m) (c .before .if1 .left) _ (c .places-of .ensures)
 
-abbrev μ-loop : tie.MeasureT-loop
-μ-loop m n₀ power₀ n power = 20 - n
+long-length-requires : tie.Need-long-length-requires
+long-length-requires c κs = search needs
 
-loop-holds : tie.Need-loop-holds Inv-loop μ-loop
-loop-holds c = counting-start _
+returns : tie.Need-returns
+returns c = search needs
 
-add-n : tie.Need-add-n Inv-loop μ-loop
-add-n c = omega arith
+cast-places-of : tie.Need-cast-places-of
+cast-places-of c = search needs
 
-returns : tie.Need-returns Inv-loop μ-loop
-returns c =
-    let l = c .before .before .loop in
-    counting-last _ (l .n) (l .power) (l .inv) (c .before .loop-test .taken) (c .if1 .taken) (omega arith)
+places-of-requires : tie.Need-places-of-requires
+places-of-requires c κs = search needs
 
-mul-power : tie.Need-mul-power Inv-loop μ-loop
-mul-power c =
-    let l = c .before .before .loop in
-    omega (arith, counting-small _ (l .n) (l .power) (l .inv) (c .before .loop-test .taken) (c .if1 .left))
+add-result : tie.Need-add-result
+add-result c =
+    let p = c .before in
+    omega (arith, counted p, decimal-length-most (p .before .before .args .m), p .before .if1 .left)
 
-loop-less : tie.Need-loop-less Inv-loop μ-loop
-loop-less c = omega arith
-
-loop-again : tie.Need-loop-again Inv-loop μ-loop
-loop-again c =
-    let l = c .before .before .loop in
-    counting-more _ (l .n) (l .power) (l .inv) (c .before .loop-test .taken) (c .if1 .left)
-
-returns-2 : tie.Need-returns-2 Inv-loop μ-loop
-returns-2 c =
-    let l = c .before .loop in
-    counting-end _ (l .n) (l .power) (l .inv) (c .loop-test .left)
+returns-2 : tie.Need-returns-2
+returns-2 c = counted (c .before)
 
 pub count-length-spec : {M : Type 1} → statement M
 count-length-spec =
     tie.close
-    (tie.spec Inv-loop μ-loop loop-holds add-n returns mul-power loop-less loop-again returns-2)
+    (tie.spec long-length-requires returns cast-places-of places-of-requires add-result returns-2)

@@ -1,35 +1,63 @@
 -- `print_number` meets its contract: the text of an integer is that of its size, with a sign before it below 0.
 use borrow.Author.Needs.{needs}
-use mathlib.Core.Path.{_≡_, ap, subst, _∙_}
-use mathlib.Core.List.{List}
-use Prim.Native.Nat.{ℕ}
-use denote.Ref.{now}
-use lib.IntN.{natAbs}
+use mathlib.Core.Path.{_≡_, ap, _∙_}
+use lib.IntN.{natAbs, pos}
+use lib.Signed.{ltZ}
 use mir.Facts.{toZ-ofZ}
-use Rattle.numbers.specs.Print.{Prints}
+use Rattle.definitions.specs.Number.{integerText}
+use Rattle.numbers.specs.Print.{signedText}
 use Rattle.numbers.proofs.Print.{integer-is}
 use Rattle.numbers.proofs.print_number.Statement.{statement}
 use Rattle.numbers.proofs.print_number.Tie as tie
 
-size : (c : tie.After-magnitude) → c .magnitude .result ≡ natAbs (c .before .before .args .value)
-size c = c .magnitude .ensures ∙ ap natAbs (toZ-ofZ (c .before .before .fits .value))
+-- the size is known
+module _ (c : tie.After-magnitude) where
+  abbrev start : tie.Start
+  start = c .before .before
+
+  size : c .magnitude .result ≡ natAbs (start .args .value)
+  size = c .magnitude .ensures ∙ ap natAbs (toZ-ofZ (start .fits .value))
+
+  text : signedText (ltZ (start .args .value) (pos 0)) (c .magnitude .result) ≡ integerText (start .args .value)
+  text = ap (signedText (ltZ (start .args .value) (pos 0))) size ∙ integer-is (start .args .value)
 
 magnitude-requires : tie.Need-magnitude-requires
 magnitude-requires c κs = search needs
 
-print-signed-requires : tie.Need-print-signed-requires
-print-signed-requires c κs = search needs
+print-long-requires : tie.Need-print-long-requires
+print-long-requires c κs = search needs
 
 same-length : tie.Need-same-length
 same-length c = search needs
 
 returns : tie.Need-returns
 returns c =
-    let m = c .before .before .before .before in
-    let s = m .before .before in
-    subst (λ (t : List ℕ). Prints t (s .args .at) (now (s .args .out)) (c .before .before .print-signed .result) (c .before .before .print-signed .last .1 .1 .0)) (integer-is (s .args .value))
-    (rw (size m, toZ-ofZ (s .fits .value)) at (c .before .before .print-signed .ensures))
+    let m = c .before .before .before .before .before in
+    rw (toZ-ofZ (start m .fits .value), text m) at (c .before .before .print-long .ensures)
+
+cast-print-few : tie.Need-cast-print-few
+cast-print-few c = search needs
+
+print-few-requires : tie.Need-print-few-requires
+print-few-requires c κs = search needs
+
+same-length-2 : tie.Need-same-length-2
+same-length-2 c = search needs
+
+returns-2 : tie.Need-returns-2
+returns-2 c =
+    let m = c .before .before .before .before .before in
+    rw (toZ-ofZ (start m .fits .value), text m) at (c .before .before .print-few .ensures)
 
 pub print-number-spec : {M : Type 1} → statement M
 print-number-spec =
-    tie.close (tie.spec magnitude-requires print-signed-requires same-length returns)
+    tie.close
+    (tie.spec
+    magnitude-requires
+    print-long-requires
+    same-length
+    returns
+    cast-print-few
+    print-few-requires
+    same-length-2
+    returns-2)

@@ -1,9 +1,8 @@
--- `put_digits` meets its contract: the loop writes one digit a turn, the last one first (`Writing`, proofs/Print.antt).
+-- `put_digits` meets its contract: the loop writes four digits a turn, the last ones first, and what is left has four or fewer (`Writing`, proofs/Print.antt).
 use native.Mathlib.Omega.{arith}
-use Prim.Native.Nat.{_+_, _<_, _-_}
-use lib.ListN.{length, length-set}
-use Rattle.definitions.proofs.Numbers.{decimal-length-small, decimal-length-big}
-use Rattle.numbers.proofs.Print.{Writing, writing-none, writing-more, writing-last}
+use mathlib.Core.Path.{_∙_}
+use borrow.Author.Needs.{needs}
+use Rattle.numbers.proofs.Print.{Writing, writing-none, writing-some, writing-more, writing-room, writing-last}
 use Rattle.numbers.proofs.put_digits.Statement.{statement}
 use Rattle.numbers.proofs.put_digits.Tie as tie
 
@@ -14,53 +13,44 @@ abbrev μ-loop : tie.MeasureT-loop
 μ-loop m out₀ at n x₀ k₀ out x k = x
 
 loop-holds : tie.Need-loop-holds Inv-loop μ-loop
-loop-holds c = writing-none _ _ _ _ (c .pre .0) (c .pre .1)
+loop-holds c = writing-none _ _ _ _ (c .before .pre .0) (c .before .pre .1)
 
 sub-k : tie.Need-sub-k Inv-loop μ-loop
-sub-k c = omega (arith, decimal-length-big (c .before .loop .x) (c .loop-test .taken))
+sub-k c = writing-some _ _ _ _ _ _ _ (c .before .loop .inv) (c .loop-test .taken) .0
 
-cast-out : tie.Need-cast-out Inv-loop μ-loop
-cast-out c = omega arith
+cast-put-four : tie.Need-cast-put-four Inv-loop μ-loop
+cast-put-four c = omega arith
 
-add-out : tie.Need-add-out Inv-loop μ-loop
-add-out c = omega arith
+add-put-four : tie.Need-add-put-four Inv-loop μ-loop
+add-put-four c = omega arith
 
-add-out-2 : tie.Need-add-out-2 Inv-loop μ-loop
-add-out-2 c = omega arith
-
-slice-write-out : tie.Need-slice-write-out Inv-loop μ-loop
-slice-write-out c =
-    let l = c .before .loop in
-    let h : c .before .before .args .at + (l .k - 1) < length (l .out) = omega (arith, decimal-length-big (l .x) (c .loop-test .taken)) in
-    h
+put-four-requires : tie.Need-put-four-requires Inv-loop μ-loop
+put-four-requires c κs = (omega arith, writing-some _ _ _ _ _ _ _ (c .before .before .loop .inv) (c .before .loop-test .taken) .1)
 
 loop-less : tie.Need-loop-less Inv-loop μ-loop
 loop-less c = omega arith
 
 loop-again : tie.Need-loop-again Inv-loop μ-loop
 loop-again c =
-    let l = c .before .loop in
-    writing-more _ _ _ _ (l .out) (l .x) (l .k) (l .inv) (c .loop-test .taken)
+    let put = c .before .before .put-four in
+    let i = c .before .before .before .before in
+    writing-more _ _ _ _ _ _ _ (i .before .loop .inv) (i .loop-test .taken) _ (put .ensures) (put .kept .1 .0)
 
-cast-out-2 : tie.Need-cast-out-2 Inv-loop μ-loop
-cast-out-2 c = omega arith
+cast-few : tie.Need-cast-few Inv-loop μ-loop
+cast-few c = omega arith
 
-add-out-3 : tie.Need-add-out-3 Inv-loop μ-loop
-add-out-3 c = omega arith
+places-of-requires : tie.Need-places-of-requires Inv-loop μ-loop
+places-of-requires c κs = search needs
 
-slice-write-out-2 : tie.Need-slice-write-out-2 Inv-loop μ-loop
-slice-write-out-2 c =
-    let l = c .before .loop in
-    let h : c .before .before .args .at < length (l .out) = omega (arith, decimal-length-small (l .x) (c .loop-test .left)) in
-    h
+put-few-requires : tie.Need-put-few-requires Inv-loop μ-loop
+put-few-requires c κs =
+    (omega arith, c .before .places-of .ensures, writing-room _ _ _ _ _ _ _ (c .before .before .before .loop .inv))
 
 same-length : tie.Need-same-length Inv-loop μ-loop
-same-length c = simp length-set (c .before .loop .inv .long)
+same-length c = c .before .before .put-few .kept .1 .1 .0 ∙ c .before .before .before .before .before .before .loop .inv .long
 
 returns : tie.Need-returns Inv-loop μ-loop
-returns c =
-    let l = c .before .loop in
-    writing-last _ _ _ _ (l .out) (l .x) (l .k) (l .inv) (c .loop-test .left)
+returns c = writing-last _ _ _ _ _ _ _ (c .before .before .before .before .before .before .loop .inv) _ (c .before .before .put-few .ensures)
 
 pub put-digits-spec : {M : Type 1} → statement M
 put-digits-spec =
@@ -70,14 +60,13 @@ put-digits-spec =
     μ-loop
     loop-holds
     sub-k
-    cast-out
-    add-out
-    add-out-2
-    slice-write-out
+    cast-put-four
+    add-put-four
+    put-four-requires
     loop-less
     loop-again
-    cast-out-2
-    add-out-3
-    slice-write-out-2
+    cast-few
+    places-of-requires
+    put-few-requires
     same-length
     returns)

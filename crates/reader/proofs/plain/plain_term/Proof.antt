@@ -1,9 +1,10 @@
 -- `plain_term` meets its contract: the words and the spaces around them are those of a plain term (`plain-is`, proofs/PlainTerms.antt).
 use Prim.Native.Nat.{ℕ, _<_, _^_}
 use mathlib.Core.List.{List}
-use mathlib.Core.Path.{subst}
+use mathlib.Core.Path.{sym, subst, _∙_}
 use native.Mathlib.Omega.{arith}
 use borrow.Author.Needs.{needs}
+use borrow.Author.Tests.{not-false}
 use denote.Ref.{now}
 use Rattle.reader.specs.Plain.{ShapeSays, ShapeIs, WeightSays, LiteralSays}
 use Rattle.reader.proofs.LaneValues.{lane-positive}
@@ -34,41 +35,28 @@ enum-told c = search needs
 returns : tie.Need-returns
 returns c = search needs
 
-cast-k : tie.Need-cast-k
-cast-k c = search needs
+add-taken : tie.Need-add-taken
+add-taken c = let h = shape (c .before) in omega (arith, h .gapped .is, h .gapped .most)
 
-shared-slice-read-if1 : tie.Need-shared-slice-read-if1
-shared-slice-read-if1 c = let h = shape (c .before .before) in omega (arith, h .long, h .gapped .is, h .gapped .most)
+add-taken-2 : tie.Need-add-taken-2
+add-taken-2 c = let h = shape (c .before) in omega (arith, h .gapped .is, h .gapped .most, h .ended .is, h .ended .most)
+
+cast-taken : tie.Need-cast-taken
+cast-taken c = search needs
+
+cast-is-spaced : tie.Need-cast-is-spaced
+cast-is-spaced c = search needs
+
+is-spaced-requires : tie.Need-is-spaced-requires
+is-spaced-requires c κs =
+    let h = shape (c .before) in
+    (omega (arith, h .long, h .gapped .is, h .gapped .most), omega arith, omega (arith, h .long, h .gapped .is, h .gapped .most, h .ended .is, h .ended .most))
 
 returns-2 : tie.Need-returns-2
 returns-2 c = search needs
 
-add-n : tie.Need-add-n
-add-n c = let h = shape (c .before .before .before) in omega (arith, h .gapped .is, h .gapped .most)
-
-add-n-2 : tie.Need-add-n-2
-add-n-2 c = let h = shape (c .before .before .before) in omega (arith, h .gapped .is, h .gapped .most, h .ended .is, h .ended .most)
-
-cast-n : tie.Need-cast-n
-cast-n c = search needs
-
-sub-if2 : tie.Need-sub-if2
-sub-if2 c = search needs
-
-shared-slice-read-if2 : tie.Need-shared-slice-read-if2
-shared-slice-read-if2 c = let h = shape (c .before .before .before .before) in omega (arith, h .long, h .gapped .is, h .gapped .most, h .ended .is, h .ended .most)
-
-returns-3 : tie.Need-returns-3
-returns-3 c = search needs
-
-shared-slice-read-if3 : tie.Need-shared-slice-read-if3
-shared-slice-read-if3 c = let h = shape (c .before .before .before .before .before .before) in omega (arith, h .long, h .gapped .is, h .gapped .most, h .ended .is, h .ended .most)
-
-returns-4 : tie.Need-returns-4
-returns-4 c = search needs
-
 weight-in-requires : tie.Need-weight-in-requires
-weight-in-requires c κs = shape (c .before .before .before .before .before .before .before) .gapped
+weight-in-requires c κs = shape (c .before .before .before) .gapped
 
 enum-known-negative : tie.Need-enum-known-negative
 enum-known-negative c = search needs
@@ -76,11 +64,11 @@ enum-known-negative c = search needs
 enum-told-2 : tie.Need-enum-told-2
 enum-told-2 c = search needs
 
-returns-5 : tie.Need-returns-5
-returns-5 c = search needs
+returns-3 : tie.Need-returns-3
+returns-3 c = search needs
 
 literal-in-requires : tie.Need-literal-in-requires
-literal-in-requires c κs = shape (c .before .before .before .before .before .before .before .before .before .before .before) .ended
+literal-in-requires c κs = shape (c .before .before .before .before .before .before .before) .ended
 
 enum-known-negated : tie.Need-enum-known-negated
 enum-known-negated c = search needs
@@ -88,30 +76,28 @@ enum-known-negated c = search needs
 enum-told-3 : tie.Need-enum-told-3
 enum-told-3 c = search needs
 
+returns-4 : tie.Need-returns-4
+returns-4 c = search needs
+
+returns-5 : tie.Need-returns-5
+returns-5 c = search needs
+
 returns-6 : tie.Need-returns-6
 returns-6 c = search needs
 
 returns-7 : tie.Need-returns-7
-returns-7 c = search needs
-
-returns-8 : tie.Need-returns-8
-returns-8 c = search needs
-
-returns-9 : tie.Need-returns-9
-returns-9 c =
+returns-7 c =
     let lit = c .before .before .before .before in
     let weight = lit .before .before .before .before in
-    let third = weight .before .before .before in
-    let second = third .before .before in
-    let first = second .before .before in
-    let h = shape (first .before .before .before) in
+    let words = weight .before .before .before .before .before .before in
+    let h = shape words in
     let variable = lit .negated .given .0 .1 .0 in
-    let some : 0 < variable = omega (arith, c .before .before .if4 .left) in
+    let some : 0 < variable = omega (arith, c .before .before .if2 .left) in
     let fits : variable < 2 ^ 64 = omega (arith, c .before .before .before .known-told3 .given) in
-    plain-is h _ _ (first .if1 .left) (second .if2 .left) (omega (arith, third .if3 .left))
+    plain-is h _ _ (sym (weight .before .before .before .before .is-spaced .ensures) ∙ not-false _ (weight .before .before .before .if1 .left))
     (subst (WeightSays _ _) (weight .negative .given .1) (weight .before .before .weight-in .ensures) (h .gapped))
     (subst (LiteralSays _ _) (lit .negated .given .1) (lit .before .before .literal-in .ensures) (h .ended))
-    (omega (arith, lane-positive variable fits some, c .if5 .left))
+    (omega (arith, lane-positive variable fits some, c .if3 .left))
 
 pub plain-term-spec : {M : Type 1} → statement M
 plain-term-spec =
@@ -121,25 +107,20 @@ plain-term-spec =
     enum-known-weight
     enum-told
     returns
-    cast-k
-    shared-slice-read-if1
+    add-taken
+    add-taken-2
+    cast-taken
+    cast-is-spaced
+    is-spaced-requires
     returns-2
-    add-n
-    add-n-2
-    cast-n
-    sub-if2
-    shared-slice-read-if2
-    returns-3
-    shared-slice-read-if3
-    returns-4
     weight-in-requires
     enum-known-negative
     enum-told-2
-    returns-5
+    returns-3
     literal-in-requires
     enum-known-negated
     enum-told-3
+    returns-4
+    returns-5
     returns-6
-    returns-7
-    returns-8
-    returns-9)
+    returns-7)

@@ -1,4 +1,4 @@
--- `print_signed` meets its contract: the digits go where there is room for them and the sign, over the sign's place or behind it (proofs/Print.antt).
+-- `print_long` meets its contract: the digits go where there is room for them and the sign, over the sign's place or behind it (proofs/Print.antt).
 use borrow.Author.Needs.{needs}
 use native.Mathlib.Omega.{arith}
 use mathlib.Core.Path.{_≡_, _∙_}
@@ -10,8 +10,8 @@ use lib.ListN.{length, length-set}
 use Rattle.definitions.proofs.Numbers.{decimal-some}
 use Rattle.numbers.specs.Print.{signedText}
 use Rattle.numbers.proofs.Print.{refused, has-room, signed-counted, signed-done, decimal-short}
-use Rattle.numbers.proofs.print_signed.Statement.{statement}
-use Rattle.numbers.proofs.print_signed.Tie as tie
+use Rattle.numbers.proofs.print_long.Statement.{statement}
+use Rattle.numbers.proofs.print_long.Tie as tie
 
 -- the sign has been counted
 module _ (c : tie.Joined1) where
@@ -21,25 +21,25 @@ module _ (c : tie.Joined1) where
   sign : c .if1 .k ≡ cond (start .args .negative) 1 0
   sign = ⊎-elim (λ w. rw (w .0 .taken) (w .1)) (λ w. rw (w .0 .left) (w .1)) (c .if1 .came)
 
-  counted : c .before .count-length .result + c .if1 .k ≡ length (signedText (start .args .negative) (start .args .m))
-  counted = signed-counted (start .args .negative) (start .args .m) _ _ sign (c .before .count-length .ensures)
+  counted : c .before .long-length .result + c .if1 .k ≡ length (signedText (start .args .negative) (start .args .m))
+  counted = signed-counted (start .args .negative) (start .args .m) _ _ sign (c .before .long-length .ensures)
 
-  few : c .before .count-length .result + c .if1 .k ≤ 21
+  few : c .before .long-length .result + c .if1 .k ≤ 21
   few = ⊎-elim (λ w. omega (arith, w .1, most)) (λ w. omega (arith, w .1, most)) (c .if1 .came)
     where
-      most : c .before .count-length .result ≤ 20
-      most = omega (arith, c .before .count-length .ensures, decimal-short (start .args .m) (omega arith))
+      most : c .before .long-length .result ≤ 20
+      most = omega (arith, c .before .long-length .ensures, decimal-short (start .args .m) (omega arith))
 
 -- what the test says where there is room
-room : (c : tie.Else2) → start (c .before .before .before) .args .at + (c .before .before .before .before .count-length .result + c .before .before .before .if1 .k) ≤ length (now (start (c .before .before .before) .args .out))
+room : (c : tie.Else2) → start (c .before .before .before) .args .at + (c .before .before .before .before .long-length .result + c .before .before .before .if1 .k) ≤ length (now (start (c .before .before .before) .args .out))
 room c =
     let j = c .before .before .before in
     let a = start j .args in
     let r = c .before .has-room in
     has-room (signedText (a .negative) (a .m)) (a .at) (now (a .out)) _ (counted j) (r .result) (r .ensures) (c .if2 .left)
 
-count-length-requires : tie.Need-count-length-requires
-count-length-requires c κs = search needs
+long-length-requires : tie.Need-long-length-requires
+long-length-requires c κs = search needs
 
 add-has-room : tie.Need-add-has-room
 add-has-room c = omega (arith, few (c .before))
@@ -55,14 +55,14 @@ returns c =
     refused (signedText (a .negative) (a .m)) (a .at) (now (a .out)) _ (counted j) (r .result) (r .ensures) (c .if2 .taken)
 
 slice-write-out : tie.Need-slice-write-out
-slice-write-out c = omega (arith, room c, c .before .before .before .before .count-length .ensures, decimal-some (start (c .before .before .before) .args .m))
+slice-write-out c = omega (arith, room c, c .before .before .before .before .long-length .ensures, decimal-some (start (c .before .before .before) .args .m))
 
 add-put-digits : tie.Need-add-put-digits
 add-put-digits c = omega (arith, room (c .before))
 
 put-digits-requires : tie.Need-put-digits-requires
 put-digits-requires c κs =
-    (c .before .before .before .before .before .count-length .ensures, simp length-set (omega (arith, room (c .before))))
+    (c .before .before .before .before .before .long-length .ensures, simp length-set (omega (arith, room (c .before))))
 
 add-t10 : tie.Need-add-t10
 add-t10 c = omega (arith, room (c .before .before .before .before))
@@ -78,13 +78,13 @@ returns-2 c =
     let e = c .before .before .before .before in
     let j = e .before .before .before in
     let a = start j .args in
-    signed-done (a .negative) (a .m) (a .at) (now (a .out)) _ _ _ (sign j) (j .before .count-length .ensures) (room e) (c .before .before .put-digits .ensures)
+    signed-done (a .negative) (a .m) (a .at) (now (a .out)) _ _ _ (sign j) (j .before .long-length .ensures) (room e) (c .before .before .put-digits .ensures)
 
-pub print-signed-spec : {M : Type 1} → statement M
-print-signed-spec =
+pub print-long-spec : {M : Type 1} → statement M
+print-long-spec =
     tie.close
     (tie.spec
-    count-length-requires
+    long-length-requires
     add-has-room
     has-room-requires
     returns
