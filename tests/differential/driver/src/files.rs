@@ -197,6 +197,7 @@ fn number(random: &mut Random, style: Style) -> Vec<u8> {
         0 => limit + random.of(&[-1, 0, 1, 2]),
         1 => random.of(&[1 << 31, 1 << 32, 1 << 62, 1 << 64, 99_999_999_999_999_999_999]),
         2 => i128::from(random.next() >> random.below(64)),
+        _ if random.once_in(3) => i128::from(random.of_length(9)),
         _ => i128::from(random.below(5)),
     };
     let sign = random.of(&["", "", "", "+", "-", "-"]);
@@ -211,6 +212,7 @@ fn file_number(random: &mut Random, style: Style) -> Vec<u8> {
         2 => i128::from(random.of(&[u32::MAX as u64 - 1, u32::MAX as u64, u32::MAX as u64 + 1, u64::MAX])) - i128::from(style.first),
         3 => 1 << random.of(&[64, 65, 90]),
         4 => random.of(&[62, 63, 64, 65, 127, 128]),
+        _ if random.once_in(6) => i128::from(random.of_length(9)),
         _ => i128::from(random.below(4)),
     };
     let number = (index + i128::from(style.first)).max(0);

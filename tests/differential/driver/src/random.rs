@@ -24,6 +24,12 @@ impl Random {
         self.below(times) == 0
     }
 
+    /// a number of up to so many digits, of each length as often as of the next
+    pub fn of_length(&mut self, most: u32) -> u64 {
+        let length = self.below(u64::from(most)) as u32 + 1;
+        self.below(10u64.pow(length))
+    }
+
     pub fn of<T: Clone>(&mut self, all: &[T]) -> T {
         all[self.below(all.len() as u64) as usize].clone()
     }

@@ -64,6 +64,7 @@ fn weight(random: &mut Random) -> i64 {
         1 => i64::MIN,
         2 => i64::MAX - random.below(2) as i64,
         3 => (random.next() >> 1) as i64,
+        4..=15 => random.of_length(17) as i64,
         _ => random.below(5) as i64,
     }
 }
@@ -73,6 +74,7 @@ fn code(random: &mut Random, first: u32) -> u32 {
         0 => random.of(&[1_073_741_822, 1_073_741_823, 1_073_741_823, 1_073_741_824]),
         1 => (u32::MAX - first).saturating_add(random.below(2) as u32).min(1_073_741_823),
         2 => random.next() as u32 >> 2,
+        3..=8 => random.of_length(9) as u32,
         _ => random.below(12) as u32,
     };
     2 * index + random.below(2) as u32
@@ -84,6 +86,7 @@ fn bound(random: &mut Random) -> i64 {
         1 => i64::MIN + random.below(4) as i64,
         2 => random.next() as i64,
         3..=5 => 0,
+        6..=8 => random.of_length(17) as i64 * random.of(&[1, -1]),
         _ => random.below(9) as i64 - 2,
     }
 }
