@@ -1,5 +1,5 @@
-/* 01's two walks in C: every term checked against the limits, nothing written by the first walk, the columns filled by the second. It reads what bench/plan.c makes and refuses all else without saying why. What our shape costs,
- * apart from the language that it is written in. */
+/* 01's two walks in C, a byte at a time: every term checked against the limits, nothing written by the first walk, the columns filled by the second. It reads what bench/plan.c makes and refuses all else without saying why. What the
+ * shape of two walks costs a C programmer who does nothing for speed. */
 #include "walks.h"
 
 typedef struct {
