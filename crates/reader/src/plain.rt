@@ -43,6 +43,15 @@ pub enum PlainLiteral {
     Other,
 }
 
+// Bytes in the lowest lanes of a word.
+const NINE: u64 = 0x39;
+
+const MINUS: u64 = 0x2d;
+
+const X: u64 = 0x78;
+
+const TILDE_X: u64 = 0x787e;
+
 // Digits, `x` and `~` have the bit 4, a space has not. A weight has one byte at least, and its gap is in the first word with a byte behind it; a literal has two.
 const WEIGHT_GAPS: u64 = 0x0010_1010_1010_1000;
 
@@ -56,7 +65,7 @@ fn shape_of(s: &[u8]) -> Shape
     }
     let weight = crate::word::word_at(s, 0);
     // A sum's end is seen before any digit is looked for.
-    if weight & 0xff > 0x39 {
+    if weight & 0xff > NINE {
         return Shape::Other;
     }
     let gap = crate::word::first_gap(weight, WEIGHT_GAPS);
@@ -82,7 +91,7 @@ fn weight_in(word: u64, gap: u32) -> PlainWeight
     requires { ⌜ AtLane 1 6 gap ⌝ }
     ensures { λ r. ⌜ WeightSays word gap r ⌝ }
 {
-    if word & 0xff == 0x2d {
+    if word & 0xff == MINUS {
         if gap < 16 {
             return PlainWeight::Other;
         }
@@ -108,7 +117,7 @@ fn literal_in(word: u64, end: u32) -> PlainLiteral
     requires { ⌜ AtLane 2 7 end ⌝ }
     ensures { λ r. ⌜ LiteralSays word end r ⌝ }
 {
-    if word & 0xff == 0x78 {
+    if word & 0xff == X {
         let Digits::Lanes(variable) = crate::word::digits_in(word >> 8, end - 12) else {
             return PlainLiteral::Other;
         };
@@ -117,7 +126,7 @@ fn literal_in(word: u64, end: u32) -> PlainLiteral
             variable,
         };
     }
-    if word & 0xffff != 0x787e {
+    if word & 0xffff != TILDE_X {
         return PlainLiteral::Other;
     }
     if end < 24 {
