@@ -13,6 +13,10 @@ use Rattle.definitions.specs.Text.{statement, inFile}
 use Rattle.definitions.specs.declared.Options.{Options}
 use Rattle.definitions.specs.Table.{Table, Outcome, refused, accepted, fitted}
 
+-- "the first index (an option, any u32)"
+abbrev pub firstAt : ℕ → Options
+firstAt first = record { first = first }
+
 -- the statements up to the end of the file: a file that reads well is read whole
 abbrev pub linesOf : Walked Line → Outcome (List Line)
 linesOf (broken r) = refused r

@@ -10,7 +10,7 @@ use lib.ListN.{length, take}
 use Rattle.definitions.specs.Refusal.{refusal, needed, accept}
 use Rattle.definitions.specs.Row.{Line}
 use Rattle.definitions.specs.Table.{Table, Outcome, refused, accepted, entries, filled, Totals, totalsOf, allTerms, counted, after, rowByRow, lineIn}
-use Rattle.definitions.specs.File.{file, reading}
+use Rattle.definitions.specs.File.{firstAt, file, reading}
 use Rattle.definitions.specs.Write.{fittedText, outputAfter, lengthOf}
 use Rattle.definitions.specs.House.{refusedLine, listing, listingTable}
 use Rattle.definitions.proofs.Tables.{filled-back}
@@ -28,7 +28,7 @@ use Rattle.reader.specs.Said.{saidAnswer}
 use Rattle.house.specs.declared.Listed as code
 use Rattle.house.specs.declared.Listed.the-variants as listed
 use Rattle.house.specs.Lists.{Lists}
-use Rattle.listing.specs.ListsFile.{firstAt, ListsFile}
+use Rattle.listing.specs.ListsFile.{ListsFile}
 
 -- ---- what an answer was counted of
 

@@ -9,7 +9,7 @@ use Rattle.definitions.specs.Refusal.{refusal}
 use Rattle.definitions.specs.Walk.{Walked, broken, items}
 use Rattle.definitions.specs.Row.{Line}
 use Rattle.definitions.specs.Table.{Table, refused, counted}
-use Rattle.definitions.specs.File.{linesOf, statements, file}
+use Rattle.definitions.specs.File.{firstAt, linesOf, statements, file}
 use Rattle.definitions.specs.Write.{writing}
 use Rattle.reader.specs.Brief.{totals}
 use Rattle.reader.specs.Said.{saidCounted, saidAnswer}
@@ -25,7 +25,7 @@ use Rattle.house.specs.Said.{saidListed}
 use Rattle.house.specs.Lists.{Lists}
 use Rattle.house.specs.declared.Listed.{Listed}
 use Rattle.opb.specs.Answers.{tableAnswer, lengthAnswer}
-use Rattle.opb.specs.Calls.{firstAt, modeAt, countAnswer, ReadsFile, NormalisesTable, WritesLines, ListsTable}
+use Rattle.opb.specs.Calls.{modeAt, countAnswer, ReadsFile, NormalisesTable, WritesLines, ListsTable}
 use Rattle.opb.specs.declared.answers.OpbTable.{OpbTable}
 use Rattle.opb.specs.declared.answers.OpbText.{OpbText}
 

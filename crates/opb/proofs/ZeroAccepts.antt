@@ -8,14 +8,14 @@ use lib.ListN.{length}
 use Rattle.definitions.specs.Refusal.{Refusal}
 use Rattle.definitions.specs.Row.{Line}
 use Rattle.definitions.specs.Table.{Table, Outcome, refused, accepted, counted}
-use Rattle.definitions.specs.File.{file, reading}
+use Rattle.definitions.specs.File.{firstAt, file, reading}
 use Rattle.definitions.specs.Normal.{normalising}
 use Rattle.definitions.specs.Evaluate.{Evaluated, constraint, goal, evaluating}
 use Rattle.definitions.specs.Write.{writing}
 use Rattle.definitions.specs.House.{listingTable}
 use Rattle.opb.specs.Answers.{tableAnswer, textAnswer, valueAnswer}
 use Rattle.opb.specs.Accepts.{Accepted, Tells}
-use Rattle.opb.specs.Calls.{firstAt, modeAt, countAnswer, ReadsFile, NormalisesTable, evaluateAnswer, WritesLines, ListsTable}
+use Rattle.opb.specs.Calls.{modeAt, countAnswer, ReadsFile, NormalisesTable, evaluateAnswer, WritesLines, ListsTable}
 use Rattle.opb.specs.declared.answers.OpbTable.{OpbTable}
 use Rattle.opb.specs.declared.answers.OpbText.{OpbText}
 use Rattle.opb.proofs.Refusals.{inOutcome, file-in, reading-in, normalising-in, evaluating-in, writing-in, listing-in}

@@ -6,23 +6,18 @@ use mathlib.Core.List.{List}
 use lib.Dec.{eqb}
 use lib.ListN.{length}
 use Rattle.definitions.specs.Table.{Table, counted, after}
-use Rattle.definitions.specs.File.{file, reading}
+use Rattle.definitions.specs.File.{firstAt, file, reading}
 use Rattle.definitions.specs.Normal.{normalising}
 use Rattle.definitions.specs.Evaluate.{evaluating}
 use Rattle.definitions.specs.Write.{writing, outputAfter}
 use Rattle.definitions.specs.House.{listingTable}
-use Rattle.definitions.specs.declared.Options.{Options}
 use Rattle.definitions.specs.declared.Mode.{Mode}
 use Rattle.opb.specs.Answers.{tableAnswer, textAnswer, valueAnswer}
 use Rattle.opb.specs.declared.answers.OpbTable.{OpbTable}
 use Rattle.opb.specs.declared.answers.OpbText.{OpbText}
 use Rattle.opb.specs.declared.answers.OpbValue.{OpbValue}
 
--- ---- options and modes as C lends them
-
--- "the first index (an option, any u32)"
-abbrev pub firstAt : ℕ → Options
-firstAt first = record { first = first }
+-- ---- modes as C lends them
 
 -- "In no-negated mode": any number but 0
 abbrev pub modeAt : ℕ → ℕ → Mode

@@ -10,15 +10,12 @@ ghost use mathlib.Core.Path.{_≡_};
 ghost use Rattle.definitions.specs.Table.{table};
 ghost use Rattle.opb.specs.Calls.{countAnswer, ReadsFile, NormalisesTable};
 
-// "file, bytes": the greatest length
-const FILE_LIMIT: usize = 1_073_741_823;
-
 // The rows and terms of a file, so that columns for them can be had. Refusals 1 to 8; 9 and 10 ask for columns.
 #[no_mangle]
 pub extern "C" fn opb_count(file: &[u8], first: u32) -> OpbTable
     ensures { λ r. ⌜ r ≡ countAnswer first (now (file .entry)) ⌝ }
 {
-    if file.len() > FILE_LIMIT {
+    if file.len() > reader::FILE_LIMIT {
         return refused_table(1, 0);
     }
     let options = Options { first };

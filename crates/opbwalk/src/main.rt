@@ -98,11 +98,6 @@ fn print_head(rows: usize, terms: usize) -> bool {
     print_put(put, &out)
 }
 
-// A comment's count is that of its bytes.
-fn terms_of(kind: u8, count: usize) -> usize {
-    if kind == 0 { 0 } else { count }
-}
-
 // The head of a table of one row: `opb`, 1, so many terms, 1, parted by tabs, and an LF.
 fn head_length(terms: usize) -> usize {
     9 + numbers::count_length(terms as u64)
@@ -139,7 +134,7 @@ fn print_row(
             say(b"opbwalk: the line does not fit the output buffer\n");
             false
         }
-        Listed::Listed(n) => print_part(out, head_length(terms_of(kind, count)), n),
+        Listed::Listed(n) => print_part(out, head_length(reader::terms_of(kind, count)), n),
     }
 }
 

@@ -40,7 +40,7 @@ kind-terms equal n = refl
 kind-terms objective n = refl
 
 -- a comment's count is that of its bytes, and it has no terms
-line-terms : (l : Line) → termsOfKind (briefLine l .kind) (briefLine l .count) ≡ length (termsOf l)
+pub line-terms : (l : Line) → termsOfKind (briefLine l .kind) (briefLine l .count) ≡ length (termsOf l)
 line-terms (comment f n b) = refl
 line-terms (row r) = kind-terms (r .kind) (length (r .terms))
 

@@ -73,7 +73,7 @@ pub record Cells (at before : ℕ) (l : Line) (k f n : ℕ) (b : ℤ) : Type 0 w
   pub bound : b ≡ boundIn (inFile at l)
   pub terms : termsOfKind k n ≡ length (termsOf l)
 
-kind-first : (k : Kind) (offset before : ℕ) → firstOfKind (kindNumber k) offset before ≡ before
+pub kind-first : (k : Kind) (offset before : ℕ) → firstOfKind (kindNumber k) offset before ≡ before
 kind-first atLeast offset before = refl
 kind-first atMost offset before = refl
 kind-first equal offset before = refl

@@ -22,6 +22,8 @@ use Rattle.reader.proofs.statement.constraint.Reads as constraint
 use Rattle.reader.proofs.statement.objective.Reads as objective
 use Rattle.reader.proofs.statement.opb_data.Reads as opb-data
 use Rattle.reader.proofs.count.count_file.Reads as count-file
+use Rattle.reader.proofs.count.terms_of.Reads as terms-of
+use Rattle.reader.proofs.fill.first_of.Reads as first-of
 
 -- ---- an answer is known by what it says
 
@@ -108,3 +110,9 @@ opb-data-one κs a r r' s s' p q = said-statement r r' (p ∙ sym q)
 
 pub count-file-one : (κs : _) (a : _) (r r' : _) (s s' : _) → count-file.Post κs a r s → count-file.Post κs a r' s' → r ≡ r'
 count-file-one κs a r r' s s' p q = said-counted r r' (p ∙ sym q)
+
+pub terms-of-one : (κs : _) (a : _) (r r' : _) (s s' : _) → terms-of.Post κs a r s → terms-of.Post κs a r' s' → r ≡ r'
+terms-of-one κs a r r' s s' p q = p ∙ sym q
+
+pub first-of-one : (κs : _) (a : _) (r r' : _) (s s' : _) → first-of.Post κs a r s → first-of.Post κs a r' s' → r ≡ r'
+first-of-one κs a r r' s s' p q = p ∙ sym q

@@ -13,7 +13,7 @@ pub enum Counted {
 }
 
 // A comment's count is that of its bytes.
-pub(crate) fn terms_of(kind: u8, count: usize) -> usize
+pub fn terms_of(kind: u8, count: usize) -> usize
     ensures { λ r. ⌜ r ≡ termsOfKind kind count ⌝ }
 {
     if kind == 0 { 0 } else { count }

@@ -12,7 +12,7 @@ pub enum Answer {
 }
 
 // "file, bytes": the greatest length
-const FILE_LIMIT: usize = 1_073_741_823;
+pub const FILE_LIMIT: usize = 1_073_741_823;
 
 // "Reader's order: 1; then statement by statement .. 2 to 7 ..; 8 ..; 9, then 10, once the whole file has read well."
 pub fn parse_opb_data(

@@ -1,4 +1,4 @@
-// The second walk over a file that has read well, into columns that have room: what the first walk counted is filled. Each function asks for just that, so all are the crate's own. Assumes nothing.
+// The second walk over a file that has read well, into columns that have room: what the first walk counted is filled. Each function that fills asks for just that, so all but `first_of` are the crate's own. Assumes nothing.
 use crate::row::RowRead;
 use crate::row::StatementRead;
 use crate::sum::SumRead;
@@ -102,7 +102,7 @@ pub(crate) fn fill_statement(
 }
 
 // "its first term (the count of terms before it)"; a comment's is its offset in the file
-pub(crate) fn first_of(kind: u8, offset: usize, term: usize) -> usize
+pub fn first_of(kind: u8, offset: usize, term: usize) -> usize
     ensures { λ r. ⌜ r ≡ firstOfKind kind offset term ⌝ }
 {
     if kind == 0 { offset } else { term }

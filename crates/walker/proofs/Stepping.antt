@@ -11,7 +11,7 @@ use lib.IntN.{ℤ}
 use Rattle.definitions.specs.Limits.{fileLimit}
 use Rattle.definitions.specs.Refusal.{Refusal, refusal}
 use Rattle.definitions.specs.Walk.{Step, stop, bad, item}
-use Rattle.definitions.specs.Row.{Term, Kind, atLeast, atMost, equal, objective, Line, comment, row, termsOf}
+use Rattle.definitions.specs.Row.{Term, Line, comment, row, termsOf}
 use Rattle.definitions.specs.Table.{Outcome, refused, accepted, kindNumber}
 use Rattle.definitions.specs.Text.{statement, inFile}
 use Rattle.definitions.specs.Stepping.{Stepped, ended, stopped, stepped, steppedBy, stepAt, offsetAfter, termsFitted, termsBy, columnsRoom, termsAtStep}
@@ -25,17 +25,11 @@ use Rattle.reader.specs.declared.terms.FilledTerms.{FilledTerms}
 use Rattle.reader.specs.declared.terms.FilledTerms.the-variants.{Refused, Terms}
 use Rattle.reader.proofs.Sums.{never}
 use Rattle.reader.proofs.Counts.{brief-stop, brief-bad, bad-within, terms-in-file}
-use Rattle.reader.proofs.FillLines.{LineTold, line-told, statement-first}
+use Rattle.reader.proofs.FillLines.{kind-first, LineTold, line-told, statement-first}
 use Rattle.reader.proofs.FillTerms.{refusing, no-terms}
 use Rattle.walker.specs.Said.{briefStepped}
 
 -- ---- the first of a line, at an offset of the file
-
-kind-first : (k : Kind) (offset : ℕ) → firstOfKind (kindNumber k) offset 0 ≡ 0
-kind-first atLeast offset = refl
-kind-first atMost offset = refl
-kind-first equal offset = refl
-kind-first objective offset = refl
 
 -- what the code says of a line that was found at the offset
 abbrev placed : ℕ → LineBrief → LineBrief
@@ -43,7 +37,7 @@ placed at x = lineBrief (x .kind) (firstOfKind (x .kind) (at + x .first) 0) (x .
 
 placed-line : (at : ℕ) (l : Line) → placed at (briefLine l) ≡ briefLine (inFile at l)
 placed-line at (comment f n b) = refl
-placed-line at (row r) = ap (λ (f : ℕ). lineBrief (kindNumber (r .kind)) f (length (r .terms)) (r .bound)) (kind-first (r .kind) (at + 0))
+placed-line at (row r) = ap (λ (f : ℕ). lineBrief (kindNumber (r .kind)) f (length (r .terms)) (r .bound)) (kind-first (r .kind) (at + 0) 0)
 
 module _ (o : Options) (s : List ℕ) (at : ℕ) where
   -- 1: "file above the limit", place 0

@@ -10,7 +10,7 @@ use lib.IntN.{ℤ}
 use Rattle.definitions.specs.Limits.{fileLimit}
 use Rattle.definitions.specs.Refusal.{Refusal, refusal}
 use Rattle.definitions.specs.Walk.{Step, stop, bad, item, Walked, broken, items}
-use Rattle.definitions.specs.Row.{Line, comment, row, termsOf}
+use Rattle.definitions.specs.Row.{Line}
 use Rattle.definitions.specs.Table.{Outcome, refused, accepted, totalsOf, counted}
 use Rattle.definitions.specs.Text.{statement, inFile}
 use Rattle.definitions.specs.File.{linesOf, statements, file}
@@ -18,13 +18,8 @@ use Rattle.definitions.specs.Stepping.{Stepped, ended, stopped, stepped, steppe
 use Rattle.definitions.specs.declared.Options.{Options}
 use Rattle.reader.specs.Brief.{LineBrief, lineBrief, briefLine, termsOfKind, totals}
 use Rattle.reader.proofs.Sums.{never}
-use Rattle.reader.proofs.Counts.{kind-terms, terms-in-file, LineIs, Counting, counting-stop, counting-bad, counting-line, line-has-byte, line-end-within, line-terms-fewer}
+use Rattle.reader.proofs.Counts.{line-terms, terms-in-file, LineIs, Counting, counting-stop, counting-bad, counting-line, line-has-byte, line-end-within, line-terms-fewer}
 use Rattle.walker.specs.Said.{briefStepped}
-
--- a comment's count is that of its bytes, and it has no terms
-told-terms : (l : Line) → termsOfKind (briefLine l .kind) (briefLine l .count) ≡ length (termsOf l)
-told-terms (comment f n b) = refl
-told-terms (row r) = kind-terms (r .kind) (length (r .terms))
 
 totals-counted : (x : Walked Line) → totals x ≡ counted (linesOf x)
 totals-counted (broken r) = refl
@@ -89,7 +84,7 @@ module _ (o : Options) (s : List ℕ) where
                     record {
                       line = l;
                       is = h;
-                      counted = ap (λ (y : LineBrief). termsOfKind (y .kind) (y .count)) z ∙ told-terms (inFile at l) ∙ ap length (terms-in-file at l);
+                      counted = ap (λ (y : LineBrief). termsOfKind (y .kind) (y .count)) z ∙ line-terms (inFile at l) ∙ ap length (terms-in-file at l);
                     };
                 behind = cc;
               }

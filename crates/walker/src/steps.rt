@@ -4,7 +4,6 @@ use reader::FilledTerms;
 use reader::StatementRead;
 ghost use mathlib.Core.Path.{_≡_};
 ghost use Rattle.definitions.specs.Stepping.{stepAt, offsetAfter, termsAtStep};
-ghost use Rattle.reader.specs.Fill.{firstOfKind};
 ghost use Rattle.reader.specs.FillsTerms.{FillsTerms};
 ghost use Rattle.walker.specs.Said.{saidStepped, briefStepped};
 
@@ -24,20 +23,11 @@ pub enum Stepped {
     },
 }
 
-// "file, bytes": the greatest length
-const FILE_LIMIT: usize = 1_073_741_823;
-
-fn first_in(kind: u8, offset: usize) -> usize
-    ensures { λ r. ⌜ r ≡ firstOfKind kind offset 0 ⌝ }
-{
-    if kind == 0 { offset } else { 0 }
-}
-
 // "takes the rest of the file from where the last one stopped"; behind the file's end nothing is left.
 pub fn step_at(file: &[u8], options: Options, at: usize) -> Stepped
     ensures { λ r. ⌜ saidStepped r ≡ briefStepped (stepAt options (now (file .entry)) at) ⌝ }
 {
-    if file.len() > FILE_LIMIT {
+    if file.len() > reader::FILE_LIMIT {
         return Stepped::Refused {
             number: 1,
             place: 0,
@@ -60,7 +50,7 @@ pub fn step_at(file: &[u8], options: Options, at: usize) -> Stepped
             taken,
         } => Stepped::Line {
             kind,
-            first: first_in(kind, at + first),
+            first: reader::first_of(kind, at + first, 0),
             count,
             bound,
             next: at + taken,

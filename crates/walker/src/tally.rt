@@ -5,15 +5,7 @@ use reader::Counted;
 ghost use mathlib.Core.Path.{_≡_};
 ghost use Rattle.definitions.specs.Table.{counted};
 ghost use Rattle.definitions.specs.File.{file};
-ghost use Rattle.reader.specs.Brief.{termsOfKind};
 ghost use Rattle.reader.specs.Said.{saidCounted};
-
-// A comment's count is that of its bytes.
-fn terms_of(kind: u8, count: usize) -> usize
-    ensures { λ r. ⌜ r ≡ termsOfKind kind count ⌝ }
-{
-    if kind == 0 { 0 } else { count }
-}
 
 // "with the same answers": what is counted of the file as it is read at once, or its refusal of 1 to 8.
 pub fn count_steps(s: &[u8], options: Options) -> Counted
@@ -38,7 +30,7 @@ pub fn count_steps(s: &[u8], options: Options) -> Counted
                 next,
             } => {
                 rows += 1;
-                terms += terms_of(kind, count);
+                terms += reader::terms_of(kind, count);
                 at = next;
             }
         }

@@ -101,13 +101,13 @@ add-t18 c =
 enum-known-kind : tie.Need-enum-known-kind
 enum-known-kind c = search needs
 
-add-first-in : tie.Need-add-first-in
-add-first-in c =
+add-first-of : tie.Need-add-first-of
+add-first-of c =
     let d = here c in
     omega (arith, first-fits (options d) (text d) (place d) (short d) (within d) _ _ _ _ _ (line-is c))
 
-first-in-requires : tie.Need-first-in-requires
-first-in-requires c κs = search needs
+first-of-requires : tie.Need-first-of-requires
+first-of-requires c κs = search needs
 
 add-t21 : tie.Need-add-t21
 add-t21 c =
@@ -129,7 +129,7 @@ returns-5 c =
     let d = here (c .before) in
     let f : SFits w64 (c .before .before .kind .given .0 .1 .1 .1 .0) = record { sfits = c .before .known-told2 .given .1 .1 .1 .0 .1 } in
     rw (toZ-ofZ f)
-    (step-line (options d) (text d) (place d) (short d) (within d) _ _ _ _ _ (line-is (c .before)) _ (c .first-in .ensures))
+    (step-line (options d) (text d) (place d) (short d) (within d) _ _ _ _ _ (line-is (c .before)) _ (c .first-of .ensures))
 
 pub step-at-spec : {M : Type 1} → theorem.statement M
 step-at-spec =
@@ -145,8 +145,8 @@ step-at-spec =
     enum-known-number
     add-t18
     enum-known-kind
-    add-first-in
-    first-in-requires
+    add-first-of
+    first-of-requires
     add-t21
     returns-3
     returns-4
