@@ -1,50 +1,10 @@
 // The listing program (01, "Examples on each side"): an OPB file on standard input, its house lines on standard output. All it does itself is to read and to
 // print; `listing::list_file` does the work, and its contract says which bytes are printed. What cannot be read or printed is said on standard error.
-use libc::STDERR_FILENO;
-use libc::STDIN_FILENO;
-use libc::STDOUT_FILENO;
 use numbers::Put;
-ghost use lib.ListN.{length};
-ghost use Rattle.opblist.specs.Within.{InputWithin, PutWithin};
-
-// How many bytes were put into a buffer, fewer than it holds only at the end of the input; or a read failed.
-enum Input {
-    Bytes(usize),
-    Failed,
-}
-
-fn read_input(buffer: &mut [u8]) -> Input
-    ensures { λ r. ⌜ InputWithin r (length (now (buffer .exit))) ⌝ }
-{
-    let mut done: usize = 0;
-    while done < buffer.len() {
-        let got = libc::read(STDIN_FILENO, &mut buffer[done..]);
-        if got < 0 {
-            return Input::Failed;
-        }
-        let n = got as usize;
-        if n == 0 {
-            return Input::Bytes(done);
-        }
-        done += n;
-    }
-    Input::Bytes(done)
-}
-
-fn say(text: &[u8]) {
-    io::write_all(STDERR_FILENO, text);
-}
-
-fn print(text: &[u8]) {
-    if !io::write_all(STDOUT_FILENO, text) {
-        say(b"opblist: standard output takes no more\n");
-    }
-}
+use streams::Input;
 
 // "first index 1, up to 4,096 rows and 8,192 terms"
-fn list(file: &[u8], out: &mut [u8]) -> Put
-    ensures { λ r. ⌜ PutWithin r (length (now (out .exit))) ⌝ }
-{
+fn list(file: &[u8], out: &mut [u8]) -> Put {
     let mut kinds = [0u8; 4096];
     let mut firsts = [0usize; 4096];
     let mut counts = [0usize; 4096];
@@ -64,51 +24,37 @@ fn list(file: &[u8], out: &mut [u8]) -> Put
     )
 }
 
-// What was put into `out`.
-fn print_put(put: Put, out: &[u8])
-    requires { ⌜ PutWithin put (length (now out)) ⌝ }
-{
+// What was put into `out`, or why it is not printed.
+fn show_put(put: Put, out: &[u8]) {
     match put {
-        Put::Done(n) => print(&out[..n]),
-        Put::Full => say(b"opblist: the lines do not fit the output buffer\n"),
+        Put::Done(_) => {
+            if !streams::print_put(put, out) {
+                streams::say(b"opblist: standard output takes no more\n");
+            }
+        }
+        Put::Full => streams::say(b"opblist: the lines do not fit the output buffer\n"),
     }
 }
 
-// The output suffices for every file that is read: see proofs/Room.antt.
+// The output suffices for every file: a head of at most 48 bytes, 4,096 rows of at most 25, 8,192 terms of at most 34.
 fn show(file: &[u8]) {
     let mut out = [0u8; 380976];
     let put = list(file, &mut out);
-    print_put(put, &out);
+    show_put(put, &out);
 }
 
 // "more input: refusal 1"
 fn refuse() {
     let mut out = [0u8; 12];
     let put = house::list_refusal(1, 0, &mut out);
-    print_put(put, &out);
-}
-
-// Whether a byte follows those that were read.
-fn follows() -> Input {
-    let mut one = [0u8; 1];
-    read_input(&mut one)
+    show_put(put, &out);
 }
 
 fn main() {
     let mut input = [0; 65536];
-    let Input::Bytes(n) = read_input(&mut input) else {
-        say(b"opblist: standard input cannot be read\n");
-        return;
-    };
-    if n == 65536 {
-        let Input::Bytes(more) = follows() else {
-            say(b"opblist: standard input cannot be read\n");
-            return;
-        };
-        if more > 0 {
-            refuse();
-            return;
-        }
+    match streams::read_input(&mut input) {
+        Input::Bytes(n) => show(&input[..n]),
+        Input::More => refuse(),
+        Input::Failed => streams::say(b"opblist: standard input cannot be read\n"),
     }
-    show(&input[..n]);
 }

@@ -2,66 +2,31 @@
 // of steps checks and counts (`walker::count_steps`), a second prints each statement's line as it is met. What cannot be read or printed is said on standard error.
 use definitions::Options;
 use house::Listed;
-use libc::STDERR_FILENO;
-use libc::STDIN_FILENO;
-use libc::STDOUT_FILENO;
 use numbers::Put;
 use reader::Counted;
 use reader::FilledTerms;
+use streams::Input;
 use walker::Stepped;
-ghost use lib.ListN.{length};
-ghost use Rattle.opbwalk.specs.Within.{InputWithin, PutWithin};
 
 // "up to 4,096 rows and 8,192 terms"
 const ROWS: usize = 4096;
 
 const TERMS: usize = 8192;
 
-// How many bytes were put into a buffer, fewer than it holds only at the end of the input; or a read failed.
-enum Input {
-    Bytes(usize),
-    Failed,
-}
-
-fn read_input(buffer: &mut [u8]) -> Input
-    ensures { λ r. ⌜ InputWithin r (length (now (buffer .exit))) ⌝ }
-{
-    let mut done: usize = 0;
-    while done < buffer.len() {
-        let got = libc::read(STDIN_FILENO, &mut buffer[done..]);
-        if got < 0 {
-            return Input::Failed;
-        }
-        let n = got as usize;
-        if n == 0 {
-            return Input::Bytes(done);
-        }
-        done += n;
+// Whether all of it was printed; where not, standard error says so.
+fn told(printed: bool) -> bool {
+    if !printed {
+        streams::say(b"opbwalk: standard output takes no more\n");
     }
-    Input::Bytes(done)
+    printed
 }
 
-fn say(text: &[u8]) {
-    io::write_all(STDERR_FILENO, text);
-}
-
-// Whether all of it was printed.
-fn print(text: &[u8]) -> bool {
-    if io::write_all(STDOUT_FILENO, text) {
-        return true;
-    }
-    say(b"opbwalk: standard output takes no more\n");
-    false
-}
-
-// What was put into `out`.
-fn print_put(put: Put, out: &[u8]) -> bool
-    requires { ⌜ PutWithin put (length (now out)) ⌝ }
-{
+// What was put into `out`, or why it is not printed.
+fn show_put(put: Put, out: &[u8]) -> bool {
     match put {
-        Put::Done(n) => print(&out[..n]),
+        Put::Done(_) => told(streams::print_put(put, out)),
         Put::Full => {
-            say(b"opbwalk: the line does not fit the output buffer\n");
+            streams::say(b"opbwalk: the line does not fit the output buffer\n");
             false
         }
     }
@@ -70,13 +35,11 @@ fn print_put(put: Put, out: &[u8]) -> bool
 fn refuse(number: u8, place: usize) {
     let mut out = [0u8; 33];
     let put = house::list_refusal(number, place as u64, &mut out);
-    print_put(put, &out);
+    show_put(put, &out);
 }
 
 // "The first line is rows, terms, first index."
-fn put_head(rows: u64, terms: u64, out: &mut [u8]) -> Put
-    ensures { λ r. ⌜ PutWithin r (length (now (out .exit))) ⌝ }
-{
+fn put_head(rows: u64, terms: u64, out: &mut [u8]) -> Put {
     let Put::Done(a) = numbers::print_text(b"opb\t", out, 0) else {
         return Put::Full;
     };
@@ -95,7 +58,7 @@ fn put_head(rows: u64, terms: u64, out: &mut [u8]) -> Put
 fn print_head(rows: usize, terms: usize) -> bool {
     let mut out = [0u8; 48];
     let put = put_head(rows as u64, terms as u64, &mut out);
-    print_put(put, &out)
+    show_put(put, &out)
 }
 
 // The head of a table of one row: `opb`, 1, so many terms, 1, parted by tabs, and an LF.
@@ -131,7 +94,7 @@ fn print_row(
             number: _,
             place: _,
         } => {
-            say(b"opbwalk: the line does not fit the output buffer\n");
+            streams::say(b"opbwalk: the line does not fit the output buffer\n");
             false
         }
         Listed::Listed(n) => print_part(out, head_length(reader::terms_of(kind, count)), n),
@@ -141,9 +104,9 @@ fn print_row(
 // The bytes from `start` to `end`, where they are that.
 fn print_part(out: &[u8], start: usize, end: usize) -> bool {
     if start <= end && end <= out.len() {
-        return print(&out[start..end]);
+        return told(streams::print(&out[start..end]));
     }
-    say(b"opbwalk: a line without its head\n");
+    streams::say(b"opbwalk: a line without its head\n");
     false
 }
 
@@ -164,7 +127,7 @@ fn print_statement(
             number: _,
             place: _,
         } => {
-            say(b"opbwalk: the terms do not fit their columns\n");
+            streams::say(b"opbwalk: the terms do not fit their columns\n");
             false
         }
         FilledTerms::Terms(_) => print_row(kind, count, bound, weights, literals, out),
@@ -222,27 +185,11 @@ fn show(file: &[u8]) {
     }
 }
 
-// Whether a byte follows those that were read.
-fn follows() -> Input {
-    let mut one = [0u8; 1];
-    read_input(&mut one)
-}
-
 fn main() {
     let mut input = [0; 65536];
-    let Input::Bytes(n) = read_input(&mut input) else {
-        say(b"opbwalk: standard input cannot be read\n");
-        return;
-    };
-    if n == 65536 {
-        let Input::Bytes(more) = follows() else {
-            say(b"opbwalk: standard input cannot be read\n");
-            return;
-        };
-        if more > 0 {
-            refuse(1, 0);
-            return;
-        }
+    match streams::read_input(&mut input) {
+        Input::Bytes(n) => show(&input[..n]),
+        Input::More => refuse(1, 0),
+        Input::Failed => streams::say(b"opbwalk: standard input cannot be read\n"),
     }
-    show(&input[..n]);
 }

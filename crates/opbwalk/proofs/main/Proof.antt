@@ -7,8 +7,8 @@ use borrow.Author.Needs.{needs}
 use Rattle.opbwalk.proofs.main.Statement.{statement}
 use Rattle.opbwalk.proofs.main.Tie as tie
 
-input-within : (c : tie.After-known-told) → c .before .n .given .0 .0 ≤ length (c .before .before .before .before .read-input .last .0)
-input-within c = rw (c .before .n .given .1) at (c .before .before .before .before .read-input .ensures)
+read-within : (c : tie.After-known-told) → c .before .n .given .0 .0 ≤ length (c .before .before .before .before .read-input .last .0)
+read-within c = rw (c .before .n .given .1) at (c .before .before .before .before .read-input .ensures)
 
 slice-aggregate-read-input : tie.Need-slice-aggregate-read-input
 slice-aggregate-read-input c = search needs
@@ -19,8 +19,23 @@ read-input-requires c κs = search needs
 enum-known-n : tie.Need-enum-known-n
 enum-known-n c = search needs
 
+array-share-prefix-input : tie.Need-array-share-prefix-input
+array-share-prefix-input c = read-within c
+
+slice-aggregate-show : tie.Need-slice-aggregate-show
+slice-aggregate-show c = sym (length-take-le _ (c .before .before .before .before .before .read-input .last .0) (read-within (c .before)))
+
+show-requires : tie.Need-show-requires
+show-requires c κs = search needs
+
 enum-told : tie.Need-enum-told
 enum-told c = search needs
+
+refuse-requires : tie.Need-refuse-requires
+refuse-requires c κs = search needs
+
+enum-told-2 : tie.Need-enum-told-2
+enum-told-2 c = search needs
 
 slice-aggregate-say : tie.Need-slice-aggregate-say
 slice-aggregate-say c = search needs
@@ -31,41 +46,11 @@ say-requires c κs = search needs
 returns : tie.Need-returns
 returns c = search needs
 
-follows-requires : tie.Need-follows-requires
-follows-requires c κs = search needs
-
-enum-known-more : tie.Need-enum-known-more
-enum-known-more c = search needs
-
-enum-told-2 : tie.Need-enum-told-2
-enum-told-2 c = search needs
-
-slice-aggregate-say-2 : tie.Need-slice-aggregate-say-2
-slice-aggregate-say-2 c = search needs
-
-say-requires-2 : tie.Need-say-requires-2
-say-requires-2 c κs = search needs
-
 returns-2 : tie.Need-returns-2
 returns-2 c = search needs
 
-refuse-requires : tie.Need-refuse-requires
-refuse-requires c κs = search needs
-
 returns-3 : tie.Need-returns-3
 returns-3 c = search needs
-
-array-share-prefix-input : tie.Need-array-share-prefix-input
-array-share-prefix-input c = input-within (c .before)
-
-slice-aggregate-show : tie.Need-slice-aggregate-show
-slice-aggregate-show c = sym (length-take-le _ (c .before .before .before .before .before .before .read-input .last .0) (input-within (c .before .before)))
-
-show-requires : tie.Need-show-requires
-show-requires c κs = search needs
-
-returns-4 : tie.Need-returns-4
-returns-4 c = search needs
 
 pub main-spec : {M : Type 1} → statement M
 main-spec =
@@ -74,19 +59,14 @@ main-spec =
     slice-aggregate-read-input
     read-input-requires
     enum-known-n
-    enum-told
-    slice-aggregate-say
-    say-requires
-    returns
-    follows-requires
-    enum-known-more
-    enum-told-2
-    slice-aggregate-say-2
-    say-requires-2
-    returns-2
-    refuse-requires
-    returns-3
     array-share-prefix-input
     slice-aggregate-show
     show-requires
-    returns-4)
+    enum-told
+    refuse-requires
+    enum-told-2
+    slice-aggregate-say
+    say-requires
+    returns
+    returns-2
+    returns-3)

@@ -1,4 +1,4 @@
--- `read_input` meets its contract: what a read answers is at most what was left of the buffer.
+-- `fill` meets its contract: what a read answers is at most what was left of the buffer.
 use native.Mathlib.Omega.{arith}
 use mathlib.Core.Path.{_≡_, refl, ap, _∙_}
 use mathlib.Core.List.{List}
@@ -13,9 +13,9 @@ use mir.Syntax.{w64}
 use mir.Val.{SFits, toZ, ofZ}
 use mir.Facts.{toZ-ofZ}
 use denote.Ref.{now}
-use Rattle.opbwalk.proofs.Counts.{rest-length, moved-count}
-use Rattle.opbwalk.proofs.read_input.Statement.{statement}
-use Rattle.opbwalk.proofs.read_input.Tie as tie
+use Rattle.streams.proofs.Counts.{rest-length, moved-count}
+use Rattle.streams.proofs.fill.Statement.{statement}
+use Rattle.streams.proofs.fill.Tie as tie
 
 abbrev Inv-loop : tie.InvT-loop
 Inv-loop buffer₀ done₀ buffer done = (done ≤ length buffer) × (length buffer ≡ length buffer₀)
@@ -98,8 +98,8 @@ same-length-3 c = c .before .loop .inv .1
 returns-3 : tie.Need-returns-3 Inv-loop μ-loop
 returns-3 c = c .before .loop .inv .0
 
-pub read-input-spec : {M : Type 1} → statement M
-read-input-spec =
+pub fill-spec : {M : Type 1} → statement M
+fill-spec =
     tie.close
     (tie.spec
     Inv-loop
