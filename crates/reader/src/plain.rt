@@ -1,4 +1,4 @@
-// Terms in their plain form, as solvers' files have them: a `-` or none, up to six digits, one space, `x` or `~x`, up to six digits, one space, and no blank behind it. They are read eight bytes at a time; a term of any other form is
+// Terms in their plain form, as solvers' files have them: a weight of up to six bytes, a `-` or none and digits; one space; a literal of up to seven, `x` or `~x` and digits; one space, and no blank behind it. They are read eight bytes at a time; a term of any other form is
 // left to the pieces. Assumes nothing.
 use crate::word::Digits;
 use definitions::Options;
