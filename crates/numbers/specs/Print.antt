@@ -37,7 +37,7 @@ fourDigits m = (48 + m / 1000) ∷ (48 + m / 100 % 10) ∷ (48 + m / 10 % 10) �
 abbrev pub fourBytes : ℕ → ℕ
 fourBytes m = 48 + m / 1000 + 256 * (48 + m / 100 % 10 + 256 * (48 + m / 10 % 10 + 256 * (48 + m % 10)))
 
--- the first place but for one digit more in front of it
+-- the place, or the next one where one more digit stands before it
 abbrev pub behind : ℕ → Bool → ℕ
 behind place more = cond more (place + 1) place
 
