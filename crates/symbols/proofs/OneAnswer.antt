@@ -19,10 +19,16 @@ use Rattle.symbols.proofs.bytes.line_ending_of.Reads as line-ending-of
 use Rattle.symbols.proofs.bytes.until_ending_of.Reads as until-ending-of
 use Rattle.symbols.proofs.types.FileNumber.of_digits.Reads as file-number-of-digits
 use Rattle.symbols.proofs.types.FileNumber.of.Reads as file-number-of
+use Rattle.symbols.proofs.types.FileNumber.number.Reads as file-number-number
+use Rattle.symbols.proofs.types.Var.of_index.Reads as var-of-index
+use Rattle.symbols.proofs.types.Var.index.Reads as var-index
+use Rattle.symbols.proofs.types.Var.in_limit.Reads as var-in-limit
 use Rattle.symbols.proofs.types.Var.of_file.Reads as var-of-file
 use Rattle.symbols.proofs.types.Var.lit.Reads as var-lit
 use Rattle.symbols.proofs.types.Var.pos_lit.Reads as var-pos-lit
 use Rattle.symbols.proofs.types.Var.neg_lit.Reads as var-neg-lit
+use Rattle.symbols.proofs.types.Lit.of_code.Reads as lit-of-code
+use Rattle.symbols.proofs.types.Lit.code.Reads as lit-code
 use Rattle.symbols.proofs.types.Lit.var.Reads as lit-var
 use Rattle.symbols.proofs.types.Lit.negated.Reads as lit-negated
 use Rattle.symbols.proofs.types.Lit.is_neg.Reads as lit-is-neg
@@ -78,6 +84,18 @@ file-number-of-digits-one κs a r r' s s' p q = said-file-number r r' (p ∙ sym
 pub file-number-of-one : (κs : _) (a : _) (r r' : _) (s s' : _) → file-number-of.Post κs a r s → file-number-of.Post κs a r' s' → r ≡ r'
 file-number-of-one κs a r r' s s' p q = said-file-number r r' (p ∙ sym q)
 
+pub file-number-number-one : (κs : _) (a : _) (r r' : _) (s s' : _) → file-number-number.Post κs a r s → file-number-number.Post κs a r' s' → r ≡ r'
+file-number-number-one κs a r r' s s' p q = p ∙ sym q
+
+pub var-of-index-one : (κs : _) (a : _) (r r' : _) (s s' : _) → var-of-index.Post κs a r s → var-of-index.Post κs a r' s' → r ≡ r'
+var-of-index-one κs a r r' s s' p q = same-var r r' (p ∙ sym q)
+
+pub var-index-one : (κs : _) (a : _) (r r' : _) (s s' : _) → var-index.Post κs a r s → var-index.Post κs a r' s' → r ≡ r'
+var-index-one κs a r r' s s' p q = p ∙ sym q
+
+pub var-in-limit-one : (κs : _) (a : _) (r r' : _) (s s' : _) → var-in-limit.Post κs a r s → var-in-limit.Post κs a r' s' → r ≡ r'
+var-in-limit-one κs a r r' s s' p q = p ∙ sym q
+
 pub var-of-file-one : (κs : _) (a : _) (r r' : _) (s s' : _) → var-of-file.Post κs a r s → var-of-file.Post κs a r' s' → r ≡ r'
 var-of-file-one κs a r r' s s' p q = said-var r r' (p ∙ sym q)
 
@@ -89,6 +107,12 @@ var-pos-lit-one κs a r r' s s' p q = said-lit r r' (p ∙ sym q)
 
 pub var-neg-lit-one : (κs : _) (a : _) (r r' : _) (s s' : _) → var-neg-lit.Post κs a r s → var-neg-lit.Post κs a r' s' → r ≡ r'
 var-neg-lit-one κs a r r' s s' p q = said-lit r r' (p ∙ sym q)
+
+pub lit-of-code-one : (κs : _) (a : _) (r r' : _) (s s' : _) → lit-of-code.Post κs a r s → lit-of-code.Post κs a r' s' → r ≡ r'
+lit-of-code-one κs a r r' s s' p q = same-lit r r' (p ∙ sym q)
+
+pub lit-code-one : (κs : _) (a : _) (r r' : _) (s s' : _) → lit-code.Post κs a r s → lit-code.Post κs a r' s' → r ≡ r'
+lit-code-one κs a r r' s s' p q = p ∙ sym q
 
 pub lit-var-one : (κs : _) (a : _) (r r' : _) (s s' : _) → lit-var.Post κs a r s → lit-var.Post κs a r' s' → r ≡ r'
 lit-var-one κs a r r' s s' p q = same-var r r' (p ∙ sym q)

@@ -2,7 +2,7 @@
 // its own, and the functions here are the only ways between them. Where one has no counterpart the answer is refusal 5. Assumes nothing.
 ghost use mathlib.Core.Path.{_≡_};
 ghost use mathlib.Core.Bool.{true, false, not};
-ghost use Rattle.definitions.specs.Literal.{index, indexOf, codeFor, negated, opposite, fileNumber};
+ghost use Rattle.definitions.specs.Literal.{index, isIndex, indexOf, codeFor, negated, opposite, fileNumber};
 ghost use Rattle.symbols.specs.Said.{saidFileNumber, saidVar, saidLit};
 ghost use Rattle.symbols.specs.Digits.{fileNumberOf};
 
@@ -48,6 +48,13 @@ impl FileNumber {
         }
     }
 
+    // The number itself, to be printed.
+    pub fn number(self) -> u32
+        ensures { λ r. ⌜ r ≡ self .0 ⌝ }
+    {
+        self.0
+    }
+
     // The number that a variable is written with.
     pub fn of(v: Var, first: u32) -> FileNumberRead
         ensures { λ r. ⌜ saidFileNumber r ≡ fileNumber first (v .0) ⌝ }
@@ -57,6 +64,27 @@ impl FileNumber {
 }
 
 impl Var {
+    // The variable of an index, which may be above its limit.
+    pub fn of_index(index: u32) -> Var
+        ensures { λ r. ⌜ r .0 ≡ index ⌝ }
+    {
+        Var(index)
+    }
+
+    // The index itself, to find the variable's bit by.
+    pub fn index(self) -> u32
+        ensures { λ r. ⌜ r ≡ self .0 ⌝ }
+    {
+        self.0
+    }
+
+    // Not "an index above its limit".
+    pub fn in_limit(self) -> bool
+        ensures { λ r. ⌜ r ≡ isIndex (self .0) ⌝ }
+    {
+        self.0 <= INDEX_LIMIT
+    }
+
     // "A variable index is the file number less the first index."
     pub fn of_file(n: FileNumber, first: u32) -> VarRead
         ensures { λ r. ⌜ saidVar r ≡ index first (n .0) ⌝ }
@@ -101,6 +129,20 @@ impl Var {
 }
 
 impl Lit {
+    // The literal of a code, as a column of literals holds it.
+    pub fn of_code(code: u32) -> Lit
+        ensures { λ r. ⌜ r .0 ≡ code ⌝ }
+    {
+        Lit(code)
+    }
+
+    // The code itself, to be put into a column of literals.
+    pub fn code(self) -> u32
+        ensures { λ r. ⌜ r ≡ self .0 ⌝ }
+    {
+        self.0
+    }
+
     // The variable that the literal is of.
     pub fn var(self) -> Var
         ensures { λ r. ⌜ r .0 ≡ indexOf (self .0) ⌝ }

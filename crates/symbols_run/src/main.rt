@@ -66,9 +66,12 @@ fn show_bytes(high: u8)
 fn show_var(n: u32, first: u32) {
     write_named(b"file ", n as u64);
     write_named(b" first ", first as u64);
-    match Var::of_file(FileNumber(n), first) {
+    let FileNumberRead::Is(number) = FileNumber::of_digits(n as u64) else {
+        return;
+    };
+    match Var::of_file(number, first) {
         VarRead::Is(v) => {
-            write_named(b" index ", v.0 as u64);
+            write_named(b" index ", v.index() as u64);
             write(b"\n");
         }
         VarRead::OutOfRange => {
@@ -80,7 +83,7 @@ fn show_var(n: u32, first: u32) {
 fn show_file_number(r: FileNumberRead) {
     match r {
         FileNumberRead::Is(n) => {
-            write_named(b" file ", n.0 as u64);
+            write_named(b" file ", n.number() as u64);
             write(b"\n");
         }
         FileNumberRead::OutOfRange => {
@@ -92,7 +95,7 @@ fn show_file_number(r: FileNumberRead) {
 fn show_back(v: u32, first: u32) {
     write_named(b"index ", v as u64);
     write_named(b" first ", first as u64);
-    show_file_number(FileNumber::of(Var(v), first));
+    show_file_number(FileNumber::of(Var::of_index(v), first));
 }
 
 fn show_digits(size: u64) {
@@ -103,7 +106,7 @@ fn show_digits(size: u64) {
 fn show_code(r: LitRead) {
     match r {
         LitRead::Is(l) => {
-            write_named(b" code ", l.0 as u64);
+            write_named(b" code ", l.code() as u64);
         }
         LitRead::OutOfRange => {
             write(b" refused 5");
@@ -113,9 +116,9 @@ fn show_code(r: LitRead) {
 
 fn show_lits(v: u32) {
     write_named(b"index ", v as u64);
-    show_code(Var(v).pos_lit());
-    show_code(Var(v).neg_lit());
-    show_code(Var(v).lit(true));
+    show_code(Var::of_index(v).pos_lit());
+    show_code(Var::of_index(v).neg_lit());
+    show_code(Var::of_index(v).lit(true));
     write(b"\n");
 }
 
@@ -129,11 +132,11 @@ fn show_sign(l: Lit) {
 }
 
 fn show_lit(code: u32) {
-    let l = Lit(code);
+    let l = Lit::of_code(code);
     write_named(b"code ", code as u64);
     show_sign(l);
-    write_named(b" index ", l.var().0 as u64);
-    write_named(b" opposite ", l.negated().0 as u64);
+    write_named(b" index ", l.var().index() as u64);
+    write_named(b" opposite ", l.negated().code() as u64);
     write(b"\n");
 }
 
