@@ -17,6 +17,7 @@ pub mod RowsBack
 pub mod StatementsBack
 pub mod Accepted
 pub mod ItemsBack
+pub mod CountsBack
 pub mod MeansBack
 pub mod PieceByPiece
 pub mod Stops

@@ -21,7 +21,7 @@ use Rattle.definitions.specs.declared.Options.{Options}
 use Rattle.definitions.specs.declared.Beginning.{Beginning}
 use Rattle.definitions.specs.declared.Beginning.the-variants.{Comment, Objective, Constraint, Nothing}
 use Rattle.definitions.proofs.Chains.{Within, within-chain, within-done, chain-linked}
-use Rattle.definitions.proofs.Walks.{Moves, all-ended, total, all-summed, total-one}
+use Rattle.definitions.proofs.Walks.{Moves, all-ended, all-summed, total-one}
 use Rattle.definitions.proofs.Texts.{blanks-within, ending-within, until-within}
 use Rattle.definitions.proofs.Numbers.{number-within, leading-length}
 

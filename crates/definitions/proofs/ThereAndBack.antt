@@ -7,16 +7,17 @@ use mathlib.Core.Path.{_≡_, ap, _∙_}
 use mathlib.Core.List.{List}
 use borrow.Author.Tests.{le-leb}
 use lib.ListN.{length}
-use Rattle.definitions.specs.Lists.{joined}
+use Rattle.definitions.specs.Lists.{joined, total}
 use Rattle.definitions.specs.Limits.{fileLimit}
 use Rattle.definitions.specs.Row.{Line}
 use Rattle.definitions.specs.Table.{Table, accepted, allTerms, rowRoom, termRoom, entries, rowByRow, fitted}
 use Rattle.definitions.specs.File.{linesOf, file, reading}
 use Rattle.definitions.specs.Write.{Item, itemText, writtenIn, writing}
-use Rattle.definitions.specs.Back.{optionsOf, Paired, rowsAsked, rowsIn, Means, Back}
+use Rattle.definitions.specs.Back.{optionsOf, Paired, rowsAsked, rowsIn, Means, linesBack, termsBack, Back}
 use Rattle.definitions.specs.declared.Mode.{Mode}
 use Rattle.definitions.proofs.Accepted.{WritableItem, rows-accepted, item-writable}
 use Rattle.definitions.proofs.ItemsBack.{linesFrom, written-statements}
+use Rattle.definitions.proofs.CountsBack.{lines-back, terms-back}
 use Rattle.definitions.proofs.MeansBack.{writing-asked, groupsFrom, groups-lines, items-back, rows-back}
 
 pub record ThereAndBack (m : Mode) (t : Table) (text s : List ℕ) : Type 0 where
@@ -31,6 +32,9 @@ pub record ThereAndBack (m : Mode) (t : Table) (text s : List ℕ) : Type 0 wher
   pub read : length s ≤ fileLimit → (T : Table) → reading (optionsOf m) s T ≡ fitted T (accepted lines)
   -- so it succeeds where there is room
   pub succeeds : length s ≤ fileLimit → (T : Table) → length lines ≤ rowRoom T → length (allTerms lines) ≤ termRoom T → reading (optionsOf m) s T ≡ accepted lines
+  -- of each item a line, one more for each offset, and its terms as many as they are
+  pub many : length lines ≡ total (linesBack m) items
+  pub terms : length (allTerms lines) ≡ total termsBack items
   -- constraints and objectives come back one for one, in order, and mean what they meant
   pub rows : Paired (Means m) (rowsAsked items) (rowsIn lines)
   -- and all lines belong to the items, in order: a comment to its comment, the line of an offset to its objective
@@ -52,6 +56,8 @@ items-back-again m t text s is a w =
       lines = linesFrom m 0 is;
       read = λ h T. ap (fitted T) (whole h);
       succeeds = λ h T r n. ap (fitted T) (whole h) ∙ rw (le-leb (length (linesFrom m 0 is)) (rowRoom T) r, le-leb (length (allTerms (linesFrom m 0 is))) (termRoom T) n);
+      many = lines-back m 0 is;
+      terms = terms-back m 0 is;
       rows = rw (groups-lines m 0 is) (rows-back m s back);
       groups = groupsFrom m 0 is;
       grouped = groups-lines m 0 is;

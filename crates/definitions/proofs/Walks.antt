@@ -6,7 +6,7 @@ use native.Mathlib.Omega.{arith}
 use lib.ListN.{length, drop, length-drop}
 use lib.Seq.{drop-drop}
 use Rattle.definitions.specs.Refusal.{refusal}
-use Rattle.definitions.specs.Lists.{AllOf}
+use Rattle.definitions.specs.Lists.{total, AllOf}
 use Rattle.definitions.specs.Walk.{Step, stop, bad, item, Walked, broken, items, before, walk, all}
 
 -- ---- what is asked of a step: nothing stands in no text, and an item has a byte, within the text
@@ -124,10 +124,6 @@ module _ {A : Type 0} (step : List ℕ → Step A) (place : ℕ → A → A) (P 
       (omega (arith, q .1), q .2)
 
 -- ---- what each item has no more of than bytes, all have no more of than bytes
-unfoldable pub total : {A : Type 0} → (A → ℕ) → List A → ℕ
-total g [] = 0
-total g (x ∷ xs) = g x + total g xs
-
 abbrev Summed : {A : Type 0} → (A → ℕ) → ℕ → Walked A → Type 0
 Summed g low (broken r) = Unit {0}
 Summed g low (items xs e) = total g xs + low ≤ e

@@ -1,16 +1,16 @@
 -- What it says that rows come back: a file is written and read again (01, "What the contracts owe", demand 3). proofs/ThereAndBack.antt has the statement.
-use Prim.Native.Nat.{ℕ}
+use Prim.Native.Nat.{ℕ, _+_}
 use mathlib.Core.Path.{_≡_}
 use mathlib.Core.Bool.{Bool, true, false, cond}
 use mathlib.Core.List.{List, [], _∷_, _++_}
 use lib.Dec.{eqb}
-use lib.ListN.{take, drop}
+use lib.ListN.{length, take, drop}
 use lib.IntN.{ℤ, pos, _+ℤ_}
 use Rattle.definitions.specs.Bytes.{cr}
 use Rattle.definitions.specs.Number.{integerText}
 use Rattle.definitions.specs.Row.{Kind, atLeast, atMost, equal, objective, Row, Line, comment, row}
 use Rattle.definitions.specs.Meaning.{Assignment, holds, valueOf}
-use Rattle.definitions.specs.Write.{printed, offsetWords, Item, say, line}
+use Rattle.definitions.specs.Write.{printed, offsetWords, isZero, Item, say, line}
 use Rattle.definitions.specs.declared.Mode.{Mode}
 use Rattle.definitions.specs.declared.Options.{Options}
 
@@ -52,6 +52,27 @@ pub record Means (m : Mode) (r r' : Row) : Type 0 where
   pub holding : (a : Assignment) → holds a r' ≡ holds a r
   -- its value and the offset printed for it make the value of r with its own offset
   pub value : (a : Assignment) → r .kind ≡ objective → valueOf a r' +ℤ offsetOf m r ≡ valueOf a r
+
+-- ---- how much comes back, which is known before it is written
+
+-- "If the final offset is not 0, a line ... follows": of a row with the final offset z
+abbrev pub offsetLine : Kind → ℤ → ℕ
+offsetLine atLeast z = 0
+offsetLine atMost z = 0
+offsetLine equal z = 0
+offsetLine objective z = cond (isZero z) 0 1
+
+-- a line for each row, and one for each offset
+abbrev pub linesBack : Mode → Item → ℕ
+linesBack m (say t) = 1
+linesBack m (line r) = 1 + offsetLine (r .kind) (offsetOf m r)
+
+-- the terms of a row come back as many as they are
+abbrev pub termsBack : Item → ℕ
+termsBack (say t) = 0
+termsBack (line r) = length (r .terms)
+
+-- ---- what comes back
 
 -- a CR at the end of a comment's text makes one line ending with the LF behind it
 unfoldable pub withoutCr : List ℕ → List ℕ

@@ -1,5 +1,5 @@
 -- Words on lists that the other files use.
-use Prim.Native.Nat.{ℕ}
+use Prim.Native.Nat.{ℕ, _+_}
 use mathlib.Core.Bool.{Bool, true, false, _&&_}
 use lib.Dec.{eqb}
 use mathlib.Core.List.{List, [], _∷_, _++_}
@@ -13,6 +13,11 @@ over xs l = xs ++ drop (length xs) l
 unfoldable pub joined : {A B : Type 0} → (B → List A) → List B → List A
 joined f [] = []
 joined f (b ∷ bs) = f b ++ joined f bs
+
+-- what g gives for each, added up
+unfoldable pub total : {A : Type 0} → (A → ℕ) → List A → ℕ
+total g [] = 0
+total g (x ∷ xs) = g x + total g xs
 
 -- whether the bytes of w stand at the front
 unfoldable pub startsWith : List ℕ → List ℕ → Bool

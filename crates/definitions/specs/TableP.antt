@@ -9,18 +9,14 @@ use Rattle.definitions.specs.Limits.{least}
 use Rattle.definitions.specs.Refusal.{refusal}
 use Rattle.definitions.specs.Row.{term, atLeast, atMost, rowOf, Line, row}
 use Rattle.definitions.specs.Table.{Table, table, Outcome, refused, accepted}
-use Rattle.definitions.specs.declared.Options.{Options}
 use Rattle.definitions.specs.declared.Mode.{Mode}
-use Rattle.definitions.specs.File.{reading}
+use Rattle.definitions.specs.File.{firstAt, reading}
 use Rattle.definitions.specs.Write.{writing}
 
 -- a text's bytes
 abbrev pub bytes : S.String → List ℕ
 bytes S.[] = []
 bytes (S._∷_ c s) = code c ∷ bytes s
-
-abbrev pub indexFrom : ℕ → Options
-indexFrom first = record { first = first }
 
 abbrev pub modeFrom : ℕ → Bool → Mode
 modeFrom first noNegated = record { first = first; plain = noNegated }
@@ -39,7 +35,7 @@ pub data Answer : Type 0 where
   text : Outcome (List ℕ) → Answer
 
 unfoldable pub answerTo : Question → Answer
-answerTo (reads first s) = lines (reading (indexFrom first) (bytes s) roomy)
+answerTo (reads first s) = lines (reading (firstAt first) (bytes s) roomy)
 answerTo (writes noNegated k n b ws ls) = text (writing (modeFrom 1 noNegated) (table (k ∷ []) (0 ∷ []) (n ∷ []) (b ∷ []) ws ls) [] 100)
 
 pub record Example : Type 0 where

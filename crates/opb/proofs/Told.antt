@@ -1,17 +1,10 @@
 -- What a callee answered is what the call answers: for each call, whichever case of the callee's answer it was.
-use Prim.Native.Nat.{ℕ, _≤_, _<_}
-use mathlib.Core.Path.{_≡_, refl, sym, ap, _∙_}
+use Prim.Native.Nat.{ℕ}
+use mathlib.Core.Path.{_≡_, sym, ap, _∙_}
 use mathlib.Core.List.{List}
-use borrow.Author.Tests.{le-leb, lt-leb}
-use lib.ListN.{length}
-use Rattle.definitions.specs.Limits.{fileLimit}
-use Rattle.definitions.specs.Refusal.{refusal}
-use Rattle.definitions.specs.Walk.{Walked, broken, items}
-use Rattle.definitions.specs.Row.{Line}
-use Rattle.definitions.specs.Table.{Table, refused, counted}
-use Rattle.definitions.specs.File.{firstAt, linesOf, statements, file}
+use Rattle.definitions.specs.Table.{Table, counted}
+use Rattle.definitions.specs.File.{firstAt, file}
 use Rattle.definitions.specs.Write.{writing}
-use Rattle.reader.specs.Brief.{totals}
 use Rattle.reader.specs.Said.{saidCounted, saidAnswer}
 use Rattle.reader.specs.Reads.{Reads}
 use Rattle.reader.specs.declared.count.Counted.{Counted}
@@ -29,21 +22,10 @@ use Rattle.opb.specs.Calls.{modeAt, countAnswer, ReadsFile, NormalisesTa
 use Rattle.opb.specs.declared.answers.OpbTable.{OpbTable}
 use Rattle.opb.specs.declared.answers.OpbText.{OpbText}
 
--- ---- counting: 1, or what the walk over the statements found
+-- ---- counting
 
-totals-counted : (w : Walked Line) → totals w ≡ counted (linesOf w)
-totals-counted (broken r) = refl
-totals-counted (items ls n) = refl
-
-module _ (first : ℕ) (s : List ℕ) (r : OpbTable) where
-  pub count-long : fileLimit < length s → r ≡ tableAnswer (refused (refusal 1 0)) → r ≡ countAnswer first s
-  unfolding file
-  count-long h e = rw (lt-leb (length s) fileLimit h) e
-
-  pub count-told : length s ≤ fileLimit → (a b : Counted) → saidCounted a ≡ totals (statements (firstAt first) s) → a ≡ b → r ≡ tableAnswer (saidCounted b) → r ≡ countAnswer first s
-  unfolding file
-  count-told h a b c q e =
-      rw (le-leb (length s) fileLimit h) (e ∙ ap tableAnswer (sym (ap saidCounted q) ∙ c ∙ totals-counted (statements (firstAt first) s)))
+pub count-told : (first : ℕ) (s : List ℕ) (r : OpbTable) (a b : Counted) → saidCounted a ≡ counted (file (firstAt first) s) → a ≡ b → r ≡ tableAnswer (saidCounted b) → r ≡ countAnswer first s
+count-told first s r a b c q e = e ∙ ap tableAnswer (sym (ap saidCounted q) ∙ c)
 
 -- ---- reading, normalising
 

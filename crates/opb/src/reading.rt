@@ -15,9 +15,6 @@ ghost use Rattle.opb.specs.Calls.{countAnswer, ReadsFile, NormalisesTabl
 pub extern "C" fn opb_count(file: &[u8], first: u32) -> OpbTable
     ensures { λ r. ⌜ r ≡ countAnswer first (now (file .entry)) ⌝ }
 {
-    if file.len() > reader::FILE_LIMIT {
-        return refused_table(1, 0);
-    }
     let options = Options { first };
     match reader::count_file(file, options) {
         Counted::Refused { number, place } => refused_table(number, place as u64),

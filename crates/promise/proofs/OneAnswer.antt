@@ -2,13 +2,13 @@
 use mathlib.Core.Path.{_≡_, sym, ap, _∙_}
 use Prim.Native.Nat.{ℕ}
 use native.Mathlib.Omega.{arith}
-use mathlib.Core.List.{List}
+use denote.Ref.{now}
 use Rattle.definitions.specs.Refusal.{Refusal, refusal}
-use Rattle.definitions.specs.Table.{Table, Totals, totalsOf}
-use Rattle.definitions.specs.declared.Mode.{Mode}
-use Rattle.promise.specs.Returns.{saidReturned, Returns}
+use Rattle.definitions.specs.Table.{table, Totals, totalsOf}
+use Rattle.promise.specs.Returns.{saidReturned}
 use Rattle.promise.specs.declared.Returned.{Returned}
 use Rattle.promise.specs.declared.Returned.the-variants.{NotWritten, NotRead, Back}
+use Rattle.promise.proofs.there_and_back.Reads as there-and-back
 
 never {ℓ} : {X : Type ℓ} → _≡_ {A = ℕ} 0 1 → X
 never z = absurd (omega arith)
@@ -36,6 +36,11 @@ said-one (Back l n m) (Back l' n' m') e =
     let b : m ≡ m' = ap (λ (x : Totals). x .terms) c in
     cc
 
-pub returns-one : {m : Mode} {t : Table} {text o : List ℕ} {new : Table} (r r' : Returned) (o₁ o₂ : List ℕ) (n₁ n₂ : Table)
-    → Returns m t text o new r o₁ n₁ → Returns m t text o new r' o₂ n₂ → (r ≡ r') × (o₁ ≡ o₂) × (n₁ ≡ n₂)
-returns-one r r' o₁ o₂ n₁ n₂ p q = (said-one r r' (p .answer ∙ sym (q .answer)), p .output ∙ sym (q .output), p .tables ∙ sym (q .tables))
+pub there-and-back-one : (κs : _) (a : _) (r r' : _) (s s' : _) → there-and-back.Post κs a r s → there-and-back.Post κs a r' s'
+    → (r ≡ r')
+    × (now (s .1 .1 .1 .1 .1 .1 .1 .1 .0) ≡ now (s' .1 .1 .1 .1 .1 .1 .1 .1 .0))
+    × (table (now (s .1 .1 .1 .1 .1 .1 .1 .1 .1 .0)) (now (s .1 .1 .1 .1 .1 .1 .1 .1 .1 .1 .0)) (now (s .1 .1 .1 .1 .1 .1 .1 .1 .1 .1 .1 .0)) (now (s .1 .1 .1 .1 .1 .1 .1 .1 .1 .1 .1 .1 .0))
+    (now (s .1 .1 .1 .1 .1 .1 .1 .1 .1 .1 .1 .1 .1 .0)) (now (s .1 .1 .1 .1 .1 .1 .1 .1 .1 .1 .1 .1 .1 .1 .0))
+    ≡ table (now (s' .1 .1 .1 .1 .1 .1 .1 .1 .1 .0)) (now (s' .1 .1 .1 .1 .1 .1 .1 .1 .1 .1 .0)) (now (s' .1 .1 .1 .1 .1 .1 .1 .1 .1 .1 .1 .0)) (now (s' .1 .1 .1 .1 .1 .1 .1 .1 .1 .1 .1 .1 .0))
+    (now (s' .1 .1 .1 .1 .1 .1 .1 .1 .1 .1 .1 .1 .1 .0)) (now (s' .1 .1 .1 .1 .1 .1 .1 .1 .1 .1 .1 .1 .1 .1 .0)))
+there-and-back-one κs a r r' s s' p q = (said-one r r' (p .answer ∙ sym (q .answer)), p .output ∙ sym (q .output), p .tables ∙ sym (q .tables))

@@ -1,4 +1,4 @@
--- What the public entry answers and leaves, case by case: 1, what the first walk refuses, 9, 10, and the whole table.
+-- What the public entry answers and leaves, case by case: what the first walk refuses, 9, 10, and the whole table.
 use Prim.Native.Nat.{ℕ, _≤_, _<_}
 use mathlib.Core.Path.{_≡_, refl, sym, ap, ap₂, _∙_}
 use mathlib.Core.List.{List, [], _∷_}
@@ -6,19 +6,23 @@ use native.Mathlib.Omega.{arith}
 use borrow.Author.Tests.{le-leb, lt-leb}
 use lib.ListN.{length, length-append}
 use Rattle.definitions.specs.Limits.{fileLimit}
-use Rattle.definitions.specs.Lists.{joined}
+use Rattle.definitions.specs.Lists.{joined, total}
 use Rattle.definitions.specs.Refusal.{refusal, needed}
 use Rattle.definitions.specs.Walk.{Walked, broken, items, all}
 use Rattle.definitions.specs.Row.{Line, termsOf}
 use Rattle.definitions.specs.Table.{Table, rowRoom, termRoom, Outcome, refused, accepted, allTerms, filled, fitted, Totals, totalsOf, counted, after}
 use Rattle.definitions.specs.Text.{statement, inFile}
-use Rattle.definitions.specs.File.{statements, file, reading}
+use Rattle.definitions.specs.File.{linesOf, statements, file, reading}
 use Rattle.definitions.specs.declared.Options.{Options}
-use Rattle.definitions.proofs.Walks.{all-ended, total, all-summed, total-one}
+use Rattle.definitions.proofs.FileAnswers.{file-accepted}
+use Rattle.definitions.proofs.Walks.{all-ended, all-summed, total-one}
 use Rattle.definitions.proofs.Statements.{statement-moves, statement-taken}
 use Rattle.reader.specs.Brief.{totals}
 use Rattle.reader.specs.Fill.{linesIn, Ready}
+use Rattle.reader.specs.Said.{saidCounted}
 use Rattle.reader.specs.Reads.{Reads}
+use Rattle.reader.specs.declared.count.Counted.{Counted}
+use Rattle.reader.specs.declared.count.Counted.the-variants as count
 use Rattle.reader.specs.declared.file.Answer.the-variants.{Refused, Read}
 use Rattle.reader.proofs.Sums.{never}
 use Rattle.reader.proofs.Counts.{terms-in-file}
@@ -58,9 +62,23 @@ needed-small n h = omega arith
 
 -- ---- what the first walk says
 
-pub totals-refused : (x : Walked Line) (e p : ℕ) → refused (refusal e p) ≡ totals x → x ≡ broken (refusal e p)
-totals-refused (broken r) e p q = cc
-totals-refused (items ls n) e p q = never (cc)
+totals-counted : (w : Walked Line) → totals w ≡ counted (linesOf w)
+totals-counted (broken r) = refl
+totals-counted (items ls n) = refl
+
+-- 1, or the walk over the statements
+module _ (o : Options) (s : List ℕ) where
+  pub count-long : fileLimit < length s → saidCounted (count.Refused 1 0) ≡ counted (file o s)
+  unfolding file
+  count-long h = rw (lt-leb (length s) fileLimit h)
+
+  pub count-short : length s ≤ fileLimit → (r : Counted) → saidCounted r ≡ totals (statements o s) → saidCounted r ≡ counted (file o s)
+  unfolding file
+  count-short h r e = rw (le-leb (length s) fileLimit h) (e ∙ totals-counted (statements o s))
+
+counted-refused : (x : Outcome (List Line)) (e p : ℕ) → refused (refusal e p) ≡ counted x → x ≡ refused (refusal e p)
+counted-refused (refused r) e p q = cc
+counted-refused (accepted ls) e p q = never (cc)
 
 -- the lines that the first walk counted
 pub record LinesAre (x : Walked Line) (rows terms : ℕ) : Type 0 where
@@ -70,11 +88,23 @@ pub record LinesAre (x : Walked Line) (rows terms : ℕ) : Type 0 where
   pub rows-are : rows ≡ length given
   pub terms-are : terms ≡ length (allTerms given)
 
-pub totals-accepted : (x : Walked Line) (n m : ℕ) → accepted (totalsOf n m) ≡ totals x → LinesAre x n m
-totals-accepted (broken r) n m q = never (cc)
-totals-accepted (items ls k) n m q =
-    let d : totalsOf n m ≡ totalsOf (length ls) (length (allTerms ls)) = cc in
-    record { given = ls; taken = k; is = refl; rows-are = ap (λ (x : Totals). x .rows) d; terms-are = ap (λ (x : Totals). x .terms) d }
+-- a file within the limit, and its lines
+pub record FileIs (o : Options) (s : List ℕ) (rows terms : ℕ) : Type 0 where
+  pub within : length s ≤ fileLimit
+  pub lines : LinesAre (statements o s) rows terms
+
+pub counted-accepted : (o : Options) (s : List ℕ) (n m : ℕ) → accepted (totalsOf n m) ≡ counted (file o s) → FileIs o s n m
+counted-accepted o s n m e = by (file o s) refl e
+  where
+    by : (x : Outcome (List Line)) → file o s ≡ x → accepted (totalsOf n m) ≡ counted x → FileIs o s n m
+    by (refused r) p q = never (cc)
+    by (accepted ls) p q =
+        let f = file-accepted o s ls p in
+        let d : totalsOf n m ≡ totalsOf (length ls) (length (allTerms ls)) = cc in
+        record {
+          within = f .within;
+          lines = record { given = ls; taken = f .end; is = f .found; rows-are = ap (λ (x : Totals). x .rows) d; terms-are = ap (λ (x : Totals). x .terms) d };
+        }
 
 -- ---- the answers
 
@@ -83,15 +113,11 @@ module _ (o : Options) (s : List ℕ) (t : Table) where
   unfolding after
   refusing n p e = record { answer = ap counted (sym e); after = ap (λ (x : Outcome (List Line)). after x t) (sym e) }
 
-  pub read-long : fileLimit < length s → Reads o s t (Refused 1 0) t
-  unfolding reading file fitted
-  read-long h = refusing 1 0 (rw (lt-leb (length s) fileLimit h))
+  pub read-broken : (n p : ℕ) → refused (refusal n p) ≡ counted (file o s) → Reads o s t (Refused n p) t
+  unfolding reading fitted
+  read-broken n p e = refusing n p (rw (counted-refused (file o s) n p e))
 
   module _ (short : length s ≤ fileLimit) where
-    pub read-broken : (n p : ℕ) → refused (refusal n p) ≡ totals (statements o s) → Reads o s t (Refused n p) t
-    unfolding reading file fitted
-    read-broken n p e = refusing n p (rw (le-leb (length s) fileLimit short, totals-refused (statements o s) n p e))
-
     module _ (n m : ℕ) (w : LinesAre (statements o s) n m) where
       pub read-rows : rowRoom t < n → Reads o s t (Refused 9 n) t
       unfolding reading file fitted

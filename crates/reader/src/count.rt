@@ -2,9 +2,13 @@
 use crate::row::StatementRead;
 use definitions::Options;
 ghost use mathlib.Core.Path.{_≡_};
-ghost use Rattle.definitions.specs.File.{statements};
+ghost use Rattle.definitions.specs.Table.{counted};
+ghost use Rattle.definitions.specs.File.{statements, file};
 ghost use Rattle.reader.specs.Brief.{termsOfKind, totals};
 ghost use Rattle.reader.specs.Said.{saidCounted};
+
+// "file, bytes": the greatest length
+pub const FILE_LIMIT: usize = 1_073_741_823;
 
 // A refusal with its place, or how many rows and terms there are.
 pub enum Counted {
@@ -19,7 +23,7 @@ pub fn terms_of(kind: u8, count: usize) -> usize
     if kind == 0 { 0 } else { count }
 }
 
-pub fn count_file(s: &[u8], options: Options) -> Counted
+fn count_statements(s: &[u8], options: Options) -> Counted
     ensures { λ r. ⌜ saidCounted r ≡ totals (statements options (now (s .entry))) ⌝ }
 {
     let mut rows: usize = 0;
@@ -49,4 +53,17 @@ pub fn count_file(s: &[u8], options: Options) -> Counted
             }
         }
     }
+}
+
+// "Reader's order: 1; then statement by statement": what a file holds, whatever room there is for it.
+pub fn count_file(s: &[u8], options: Options) -> Counted
+    ensures { λ r. ⌜ saidCounted r ≡ counted (file options (now (s .entry))) ⌝ }
+{
+    if s.len() > FILE_LIMIT {
+        return Counted::Refused {
+            number: 1,
+            place: 0,
+        };
+    }
+    count_statements(s, options)
 }

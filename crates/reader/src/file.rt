@@ -11,9 +11,6 @@ pub enum Answer {
     Read { rows: usize, terms: usize },
 }
 
-// "file, bytes": the greatest length
-pub const FILE_LIMIT: usize = 1_073_741_823;
-
 // "Reader's order: 1; then statement by statement .. 2 to 7 ..; 8 ..; 9, then 10, once the whole file has read well."
 pub fn parse_opb_data(
     s: &[u8],
@@ -28,12 +25,6 @@ pub fn parse_opb_data(
     ensures { λ r. ⌜ Reads options (now (s .entry)) (table (now (kinds .entry)) (now (firsts .entry)) (now (counts .entry)) (now (bounds .entry)) (now (weights .entry)) (now (literals .entry))) r
         (table (now (kinds .exit)) (now (firsts .exit)) (now (counts .exit)) (now (bounds .exit)) (now (weights .exit)) (now (literals .exit))) ⌝ }
 {
-    if s.len() > FILE_LIMIT {
-        return Answer::Refused {
-            number: 1,
-            place: 0,
-        };
-    }
     match crate::count::count_file(s, options) {
         Counted::Refused { number, place } => Answer::Refused { number, place },
         Counted::Table { rows, terms } => {

@@ -12,10 +12,10 @@ mod terms;
 mod word;
 
 pub use count::Counted;
+pub use count::FILE_LIMIT;
 pub use count::count_file;
 pub use count::terms_of;
 pub use file::Answer;
-pub use file::FILE_LIMIT;
 pub use file::parse_opb_data;
 pub use fill::first_of;
 pub use row::RowRead;

@@ -38,6 +38,6 @@ module _ (f n : ℕ) (text : List ℕ) where
     pub comment-broken : oneLine (take (f + n - f) (drop f text)) ≡ false → refuse 15 ≡ commentMeasured f n text
     comment-broken b = rw (e, rw (part-is f n text) at b)
 
-    pub comment-whole : n + 3 ≤ neededLimit → oneLine (take (f + n - f) (drop f text)) ≡ true → accept (n + 3) ≡ commentMeasured f n text
+    pub comment-whole : n + 3 ≤ neededLimit → oneLine (take (f + n - f) (drop f text)) ≡ true → accept (record { length = n + 3; lines = 1; terms = 0 }) ≡ commentMeasured f n text
     unfolding needed
     comment-whole h b = let k : needed (n + 3) ≡ n + 3 = omega arith in rw (e, rw (part-is f n text) at b, k)

@@ -16,7 +16,7 @@ use Rattle.writer.specs.declared.kinds.Kind as code
 use Rattle.writer.specs.declared.kinds.Kind.the-variants.{AtLeast, AtMost, Equal, Objective}
 use Rattle.writer.specs.Kinds.{kindOf, isAtMost, isEqual, isObjective}
 use Rattle.writer.specs.Terms.{shownTerm, spacedBy, shownText, termsText}
-use Rattle.writer.specs.Rows.{operatorText, frameText}
+use Rattle.writer.specs.Rows.{operatorText, frameText, frameLines}
 use Rattle.writer.proofs.Tests.{not-both}
 use Rattle.writer.proofs.PrintedRows.{shownKind, printed-kind, printed-terms}
 
@@ -69,6 +69,15 @@ module _ (z : ℤ) where
 
   pub frame-offset : (z ≡ pos 0 → ⊥) → length (frameText Objective z) ≡ length (integerText z) + 50
   frame-offset h = omega (arith, offset-length h)
+
+-- the lines that come back of it
+pub lines-no-offset : (z : ℤ) → z ≡ pos 0 → 1 ≡ frameLines Objective z
+lines-no-offset z e = rw e
+
+pub lines-offset : (z : ℤ) → (z ≡ pos 0 → ⊥) → 2 ≡ frameLines Objective z
+lines-offset (pos zero) h = absurd (h refl)
+lines-offset (pos (suc n)) h = refl
+lines-offset (negsuc n) h = refl
 
 -- ---- the text of the printed row
 

@@ -1,5 +1,5 @@
--- What the first walk says of a row is what the definitions say: its refusals in their order, or the length of its line.
-use mathlib.Core.Path.{_≡_, refl, sym, ap, _∙_}
+-- What the first walk says of a row is what the definitions say: its refusals in their order, or what its line comes to.
+use mathlib.Core.Path.{_≡_, refl, sym, ap, ap₂, _∙_}
 use mathlib.Core.Bool.{Bool, true, false, cond, not, _&&_}
 use mathlib.Core.List.{List}
 use Prim.Native.Nat.{ℕ, zero, suc, _+_, _≤_}
@@ -12,6 +12,7 @@ use Rattle.definitions.specs.Refusal.{Checked, refuse, accept, needed}
 use Rattle.definitions.specs.Row.{Term, Row, sizes}
 use Rattle.definitions.specs.Table.{indexed, termsOn}
 use Rattle.definitions.specs.Write.{rowText, printed, line, itemText, weighs, hasTerms, numbered, bounded, rowAllowed}
+use Rattle.definitions.specs.Back.{linesBack}
 use Rattle.definitions.specs.declared.Mode.{Mode}
 use Rattle.columns.specs.Sizes.{capped}
 use Rattle.columns.proofs.Terms.{terms-count}
@@ -43,7 +44,7 @@ module _ (s : Shape) (n : ℕ) (t : Tally) where
     counted-unnumbered b = rw (l, b)
 
     pub counted-framed : (r : Checked ℤ) → t .numbered ≡ true → r ≡ printedBound (s .kind) (s .bound) (t .sums .total) (t .sums .fall)
-        → framed (s .kind) (t .length) r ≡ countedLength s n t
+        → framed (s .kind) (t .length) n r ≡ countedLength s n t
     unfolding countedLength
     counted-framed r b e = rw (l, b, e)
 
@@ -107,13 +108,13 @@ module _ (shape : Shape) (ws : List ℤ) (cs : List ℕ) (long : length ws ≡ l
         rw sums-are (omega (arith, falls-most style terms))
 
     within-line : numbered (m .first) terms ≡ true → (b : Bool)
-        → framed (shape .kind) (t .length) (cond b (accept (printed (m .plain) whole .bound)) (refuse 8)) ≡ measured m (cond b (accept (line whole)) (refuse 8))
+        → framed (shape .kind) (t .length) (length cs) (cond b (accept (printed (m .plain) whole .bound)) (refuse 8)) ≡ measured m (cond b (accept (line whole)) (refuse 8))
     unfolding itemText needed
     within-line n true =
         let k : t .length ≡ needed (0 + length (termsText style terms)) = length-is n in
         let l = row-text-length (shape .kind) (shape .bound) terms style refl refl in
         let q : needed (t .length + length (frameText (shape .kind) (printed (m .plain) whole .bound))) ≡ needed (length (rowText (m .first) (printed (m .plain) whole))) = omega (arith, k, l) in
-        ap accept q
+        ap₂ (λ (x y : ℕ). accept (record { length = x; lines = linesBack m (line whole); terms = y })) q (sym (own-count (shape .unit) ws cs long))
     within-line n false = refl
 
     pub measured-counted : countedLength shape (length cs) t ≡ rowMeasured m whole
@@ -130,7 +131,7 @@ module _ (shape : Shape) (ws : List ℤ) (cs : List ℕ) (long : length ws ≡ l
         (by (hasTerms (kindOf (shape .kind)) terms) (numbered (m .first) terms) refl)
       where
         by : (h n : Bool) → numbered (m .first) terms ≡ n
-            → cond (not h) (refuse 13) (cond n (framed (shape .kind) (t .length) (cond (bounded m whole) (accept (printed (m .plain) whole .bound)) (refuse 8))) (refuse 5))
+            → cond (not h) (refuse 13) (cond n (framed (shape .kind) (t .length) (length cs) (cond (bounded m whole) (accept (printed (m .plain) whole .bound)) (refuse 8))) (refuse 5))
             ≡ measured m (cond h (cond n (cond (bounded m whole) (accept (line whole)) (refuse 8)) (refuse 5)) (refuse 13))
         by true true e = within-line e (bounded m whole)
         by true false e = refl

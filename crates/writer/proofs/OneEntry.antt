@@ -127,11 +127,11 @@ module _ (m : Mode) (ws : List ℤ) (cs : List ℕ) (text : List ℕ) (k f n : �
   measured-comment = by (leb (f + n) (length text)) (oneLine part) (leb-true (f + n) (length text))
     where
       by : (p q : Bool) → (p ≡ true → f + n ≤ length text)
-          → measured m (andThen (cond p (cond q (accept (say part)) (refuse 15)) (refuse 11)) (allowed m)) ≡ cond p (cond q (accept (needed (n + 3))) (refuse 15)) (refuse 11)
+          → measured m (andThen (cond p (cond q (accept (say part)) (refuse 15)) (refuse 11)) (allowed m)) ≡ cond p (cond q (accept (record { length = needed (n + 3); lines = 1; terms = 0 })) (refuse 15)) (refuse 11)
       by true true h =
           let g : f + n ≤ length text = h refl in
           let l : length part ≡ n = simp (length-take, length-drop) (omega arith) in
-          ap (λ (x : ℕ). accept (needed x)) (remark-length part ∙ rw l)
+          ap (λ (x : ℕ). accept (record { length = needed x; lines = 1; terms = 0 })) (remark-length part ∙ rw l)
       by true false h = refl
       by false q h = refl
 

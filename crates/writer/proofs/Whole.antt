@@ -12,7 +12,8 @@ use Rattle.definitions.specs.Table.{Table, Outcome, refused, accepted}
 use Rattle.definitions.specs.Write.{Item, textOf, writing, outputAfter}
 use Rattle.definitions.specs.declared.Mode.{Mode}
 use Rattle.writer.specs.declared.Written.the-variants.{Refused, Wrote}
-use Rattle.writer.specs.Walks.{itemsFor, linesOf, neededBy, neededFor, linesBy, linesFor, LinesReady}
+use Rattle.writer.specs.Walks.{itemsFor, linesOf, extentsOf, extentBy, extentFor, linesBy, linesFor, LinesReady}
+use Rattle.writer.specs.declared.rows.Extent.{Extent}
 use Rattle.writer.specs.Writes.{Writes}
 
 -- what each outcome of the rows says
@@ -21,18 +22,21 @@ module _ (m : Mode) (t : Table) (text o : List ℕ) where
   unfolding writing
   written-as os e = ap (textOf m (length o)) e
 
-  pub writes-refused : (n p : ℕ) → refused (refusal n p) ≡ neededFor m t text → Writes m t text o (Refused n p) o
+  pub writes-refused : (n p : ℕ) → refused (refusal n p) ≡ extentFor m t text → Writes m t text o (Refused n p) o
   unfolding outputAfter
   writes-refused n p e = by (itemsFor m t text) refl e
     where
-      by : (os : Outcome (List Item)) → itemsFor m t text ≡ os → refused (refusal n p) ≡ neededBy m os → Writes m t text o (Refused n p) o
+      by : (os : Outcome (List Item)) → itemsFor m t text ≡ os → refused (refusal n p) ≡ extentBy m os → Writes m t text o (Refused n p) o
       by (refused r) q e =
           let w = written-as (refused r) q in
-          let k : refused (refusal n p) ≡ refused r = e in
+          let k : refusal n p ≡ r = cc in
           record { answer = rw w (rw k); after = rw w }
       by (accepted is) q e = let z : _≡_ {A = ℕ} 0 1 = cc in absurd (omega arith)
 
-  module _ (n : ℕ) (e : accepted n ≡ neededFor m t text) where
+  module _ (x : Extent) (e : accepted x ≡ extentFor m t text) where
+    abbrev n : ℕ
+    n = x .length
+
     -- all rows are accepted
     record Accepted : Type 0 where
       items : List Item
@@ -42,9 +46,11 @@ module _ (m : Mode) (t : Table) (text o : List ℕ) where
     all-accepted : Accepted
     all-accepted = by (itemsFor m t text) refl e
       where
-        by : (os : Outcome (List Item)) → itemsFor m t text ≡ os → accepted n ≡ neededBy m os → Accepted
+        by : (os : Outcome (List Item)) → itemsFor m t text ≡ os → accepted x ≡ extentBy m os → Accepted
         by (refused r) q e = let z : _≡_ {A = ℕ} 0 1 = cc in absurd (omega arith)
-        by (accepted is) q e = record { items = is; are = q; count = cc }
+        by (accepted is) q e =
+            let k : x ≡ extentsOf m is = cc in
+            record { items = is; are = q; count = ap (λ (y : Extent). y .length) k }
 
     abbrev lines : List ℕ
     lines = linesOf m (all-accepted .items)

@@ -11,6 +11,7 @@ use Rattle.definitions.specs.Table.{Table, table, Entry}
 use Rattle.definitions.specs.Write.{Item, itemText, oneLine, writtenIn}
 use Rattle.definitions.specs.declared.Mode.{Mode}
 use Rattle.writer.specs.declared.kinds.Shape.{Shape}
+use Rattle.writer.specs.declared.rows.Extent.{Extent}
 use Rattle.writer.specs.Rows.{rowOn, rowMeasured}
 
 abbrev pub entryOf : ℕ → ℕ → ℕ → ℤ → Entry
@@ -22,10 +23,10 @@ onColumns ws cs = table [] [] [] [] ws cs
 
 -- ---- the first walk
 
-abbrev pub commentMeasured : ℕ → ℕ → List ℕ → Checked ℕ
-commentMeasured f n text = cond (leb (f + n) (length text)) (cond (oneLine (take n (drop f text))) (accept (needed (n + 3))) (refuse 15)) (refuse 11)
+abbrev pub commentMeasured : ℕ → ℕ → List ℕ → Checked Extent
+commentMeasured f n text = cond (leb (f + n) (length text)) (cond (oneLine (take n (drop f text))) (accept (record { length = needed (n + 3); lines = 1; terms = 0 })) (refuse 15)) (refuse 11)
 
-abbrev pub partMeasured : Shape → ℕ → ℕ → List ℤ → List ℕ → Mode → Checked ℕ
+abbrev pub partMeasured : Shape → ℕ → ℕ → List ℤ → List ℕ → Mode → Checked Extent
 partMeasured s f n ws cs m = cond (leb (f + n) (min (length ws) (length cs))) (rowMeasured m (rowOn s (take n (drop f ws)) (take n (drop f cs)))) (refuse 11)
 
 -- ---- the second walk

@@ -10,12 +10,14 @@ use Rattle.definitions.specs.Bytes.{minText, greater, equals}
 use Rattle.definitions.specs.Row.{Row, rowOf}
 use Rattle.definitions.specs.Table.{indexed}
 use Rattle.definitions.specs.Write.{closed, offsetText, comparisonText, Item, itemText, weighs, rowAllowed}
+use Rattle.definitions.specs.Back.{offsetLine, linesBack, termsBack}
 use Rattle.definitions.specs.declared.Mode.{Mode}
 use Rattle.writer.specs.declared.kinds.Kind.{Kind}
 use Rattle.writer.specs.declared.kinds.Shape.{Shape}
 use Rattle.writer.specs.declared.sums.Tally.{Tally}
 use Rattle.writer.specs.declared.rows.Measured as code
-use Rattle.writer.specs.declared.rows.Measured.the-variants.{Length, Refused}
+use Rattle.writer.specs.declared.rows.Measured.the-variants.{Is, Refused}
+use Rattle.writer.specs.declared.rows.Extent.{Extent}
 use Rattle.writer.specs.Kinds.{kindOf, isEqual, isObjective}
 use Rattle.writer.specs.Bounds.{printedBound}
 use Rattle.writer.specs.Terms.{ownTerms}
@@ -26,16 +28,19 @@ rowOn s ws cs = rowOf (kindOf (s .kind)) (s .bound) (ownTerms (s .unit) ws cs)
 
 -- ---- the first walk
 
--- the length of what is written, up to the limit of a needed number
-abbrev pub measured : Mode → Checked Item → Checked ℕ
-measured m (refuse n) = refuse n
-measured m (accept i) = accept (needed (length (itemText m i)))
+-- what an item comes to: the length of its text, up to the limit of a needed number, and the lines and terms that come back of it
+abbrev pub extentOf : Mode → Item → Extent
+extentOf m i = record { length = needed (length (itemText m i)); lines = linesBack m i; terms = termsBack i }
 
-unfoldable pub rowMeasured : Mode → Row → Checked ℕ
+abbrev pub measured : Mode → Checked Item → Checked Extent
+measured m (refuse n) = refuse n
+measured m (accept i) = accept (extentOf m i)
+
+unfoldable pub rowMeasured : Mode → Row → Checked Extent
 rowMeasured m r = cond (indexed (r .terms) && weighs (r .terms)) (measured m (rowAllowed m r)) (refuse 11)
 
-abbrev pub saidMeasured : code.Measured → Checked ℕ
-saidMeasured (Length n) = accept n
+abbrev pub saidMeasured : code.Measured → Checked Extent
+saidMeasured (Is x) = accept x
 saidMeasured (Refused n) = refuse n
 
 -- ---- what stands around the terms
@@ -47,16 +52,20 @@ operatorText k = cond (isEqual k) (equals ∷ []) (greater ∷ equals ∷ [])
 abbrev pub frameText : Kind → ℤ → List ℕ
 frameText k z = cond (isObjective k) (minText ++ (closed ++ offsetText z)) (comparisonText (operatorText k) z)
 
+abbrev pub frameLines : Kind → ℤ → ℕ
+frameLines k z = 1 + offsetLine (kindOf k) z
+
 -- ---- the order of refusals, by what is counted of the terms
 
 abbrev pub lacksTerms : Kind → ℕ → Bool
 lacksTerms k n = not (isObjective k) && eqb n 0
 
-abbrev pub framed : Kind → ℕ → Checked ℤ → Checked ℕ
-framed k n (refuse e) = refuse e
-framed k n (accept z) = accept (needed (n + length (frameText k z)))
+-- of n terms, whose texts are of a length
+abbrev pub framed : Kind → ℕ → ℕ → Checked ℤ → Checked Extent
+framed k long n (refuse e) = refuse e
+framed k long n (accept z) = accept (record { length = needed (long + length (frameText k z)); lines = frameLines k z; terms = n })
 
-unfoldable pub countedLength : Shape → ℕ → Tally → Checked ℕ
+unfoldable pub countedLength : Shape → ℕ → Tally → Checked Extent
 countedLength s n t =
     cond (lacksTerms (s .kind) n) (refuse 13)
-    (cond (t .numbered) (framed (s .kind) (t .length) (printedBound (s .kind) (s .bound) (t .sums .total) (t .sums .fall))) (refuse 5))
+    (cond (t .numbered) (framed (s .kind) (t .length) n (printedBound (s .kind) (s .bound) (t .sums .total) (t .sums .fall))) (refuse 5))

@@ -4,6 +4,7 @@ use crate::kinds::Sort;
 use crate::kinds::sort_of;
 use crate::lines::write_comment;
 use crate::lines::write_row;
+use crate::rows::Extent;
 use crate::rows::Measured;
 use crate::rows::row_length;
 use definitions::Mode;
@@ -39,8 +40,12 @@ fn comment_length(first: usize, count: usize, text: &[u8]) -> Measured
     if !one_line(&text[first..end]) {
         return Measured::Refused(15);
     }
-    let n = count as u64 + 3;
-    Measured::Length(n)
+    let length = count as u64 + 3;
+    Measured::Is(Extent {
+        length,
+        lines: 1,
+        terms: 0,
+    })
 }
 
 // 11: "terms outside their column"

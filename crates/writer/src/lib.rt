@@ -13,11 +13,12 @@ use definitions::Mode;
 use entries::entry_length;
 use entries::write_entry;
 use rows::Measured;
+pub use rows::Extent;
 use sums::add_length;
 ghost use mathlib.Core.Path.{_≡_};
 ghost use Rattle.definitions.specs.Lists.{over};
 ghost use Rattle.definitions.specs.Table.{table};
-ghost use Rattle.writer.specs.Walks.{saidNeeded, neededFor, linesFor, LinesReady};
+ghost use Rattle.writer.specs.Walks.{addedTo, saidMeasure, extentFor, linesFor, LinesReady};
 ghost use Rattle.writer.specs.Writes.{Writes};
 
 pub enum Written {
@@ -26,13 +27,24 @@ pub enum Written {
     Wrote(usize),
 }
 
-// What the first walk says of all rows: the length of their lines, up to the limit of a needed number, or the first refusal and its row.
-enum Needed {
-    Length(u64),
+// What the first walk says of all rows: what they come to, or the first refusal and its row.
+pub enum Measure {
+    Lines(Extent),
     Refused { number: u8, place: u64 },
 }
 
-fn needed_length(
+fn add_extent(all: Extent, more: Extent) -> Extent
+    ensures { λ r. ⌜ r ≡ addedTo all more ⌝ }
+{
+    Extent {
+        length: add_length(all.length, more.length),
+        lines: add_length(all.lines, more.lines),
+        terms: add_length(all.terms, more.terms),
+    }
+}
+
+// What would be written, and what of it would come back, whatever room there is for it.
+pub fn measure_opb_lines(
     kinds: &[u8],
     firsts: &[usize],
     counts: &[usize],
@@ -41,11 +53,15 @@ fn needed_length(
     literals: &[u32],
     text: &[u8],
     mode: Mode,
-) -> Needed
-    ensures { λ r. ⌜ saidNeeded r ≡ neededFor mode (table (now (kinds .entry)) (now (firsts .entry)) (now (counts .entry)) (now (bounds .entry)) (now (weights .entry)) (now (literals .entry))) (now (text .entry)) ⌝ }
+) -> Measure
+    ensures { λ r. ⌜ saidMeasure r ≡ extentFor mode (table (now (kinds .entry)) (now (firsts .entry)) (now (counts .entry)) (now (bounds .entry)) (now (weights .entry)) (now (literals .entry))) (now (text .entry)) ⌝ }
 {
     let rows = columns::row_room(kinds, firsts, counts, bounds);
-    let mut length: u64 = 0;
+    let mut all = Extent {
+        length: 0,
+        lines: 0,
+        terms: 0,
+    };
     let mut row: usize = 0;
     while row < rows {
         match entry_length(
@@ -58,11 +74,11 @@ fn needed_length(
             text,
             mode,
         ) {
-            Measured::Length(more) => {
-                length = add_length(length, more);
+            Measured::Is(more) => {
+                all = add_extent(all, more);
             }
             Measured::Refused(number) => {
-                return Needed::Refused {
+                return Measure::Refused {
                     number,
                     place: row as u64,
                 };
@@ -70,7 +86,7 @@ fn needed_length(
         }
         row += 1;
     }
-    Needed::Length(length)
+    Measure::Lines(all)
 }
 
 pub(crate) fn write_lines(
@@ -120,9 +136,10 @@ pub fn write_opb_lines(
 ) -> Written
     ensures { λ r. ⌜ Writes mode (table (now (kinds .entry)) (now (firsts .entry)) (now (counts .entry)) (now (bounds .entry)) (now (weights .entry)) (now (literals .entry))) (now (text .entry)) (now (out .entry)) r (now (out .exit)) ⌝ }
 {
-    match needed_length(kinds, firsts, counts, bounds, weights, literals, text, mode) {
-        Needed::Refused { number, place } => Written::Refused { number, place },
-        Needed::Length(length) => {
+    match measure_opb_lines(kinds, firsts, counts, bounds, weights, literals, text, mode) {
+        Measure::Refused { number, place } => Written::Refused { number, place },
+        Measure::Lines(all) => {
+            let length = all.length;
             if length > out.len() as u64 {
                 return Written::Refused {
                     number: 14,

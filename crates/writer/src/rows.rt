@@ -14,11 +14,18 @@ ghost use mathlib.Core.Path.{_≡_};
 ghost use Prim.Native.Nat.{_≤_};
 ghost use lib.ListN.{length};
 ghost use Rattle.writer.specs.Kinds.{kindOf};
-ghost use Rattle.writer.specs.Rows.{rowOn, frameText, lacksTerms, saidMeasured, countedLength, rowMeasured};
+ghost use Rattle.writer.specs.Rows.{rowOn, frameText, frameLines, lacksTerms, saidMeasured, countedLength, rowMeasured};
 
-// What the first walk says of one row: the length of its line, up to the limit of a needed number, or the number of its refusal.
+// What rows come to: the length of their lines, and how many lines and terms come back where these are read; each up to the limit of a needed number.
+pub struct Extent {
+    pub length: u64,
+    pub lines: u64,
+    pub terms: u64,
+}
+
+// What the first walk says of one row, or the number of its refusal.
 pub(crate) enum Measured {
-    Length(u64),
+    Is(Extent),
     Refused(u8),
 }
 
@@ -45,6 +52,18 @@ fn frame_length(kind: Kind, z: i64) -> usize
     }
 }
 
+// "If the final offset is not 0, a line ... follows": it comes back as a comment.
+fn frame_lines(kind: Kind, z: i64) -> u64
+    ensures { λ r. ⌜ r ≡ frameLines kind z ⌝ }
+{
+    match kind {
+        Kind::AtLeast => 1,
+        Kind::AtMost => 1,
+        Kind::Equal => 1,
+        Kind::Objective => { if z == 0 { 1 } else { 2 } }
+    }
+}
+
 // "Order per row: ..., 13, 5 (file number), 8"
 fn counted_length(shape: Shape, count: usize, t: Tally) -> Measured
     requires { ⌜ t .sums .fall ≤ t .sums .total ⌝ }
@@ -61,8 +80,13 @@ fn counted_length(shape: Shape, count: usize, t: Tally) -> Measured
     let bound = shape.bound;
     match printed_bound(kind, bound, sums) {
         Bound::Is(z) => {
-            let n = add_length(t.length, frame_length(kind, z) as u64);
-            Measured::Length(n)
+            let length = add_length(t.length, frame_length(kind, z) as u64);
+            let lines = frame_lines(kind, z);
+            Measured::Is(Extent {
+                length,
+                lines,
+                terms: count as u64,
+            })
         }
         Bound::Beyond => Measured::Refused(8),
     }

@@ -1,41 +1,79 @@
+-- `there_and_back` meets its contract: a refusal that was foreseen, with nothing changed; or both accept (proofs/Laws.antt).
+use mathlib.Core.Path.{_≡_, sym, ap, _∙_}
+use Prim.Native.Nat.{ℕ}
+use mathlib.Core.List.{List}
+use denote.Ref.{now}
+use lib.ListN.{length}
+use Rattle.definitions.specs.Table.{Table, table, totalsOf}
+use Rattle.definitions.specs.Write.{writing}
+use Rattle.promise.specs.Returns.{back, returning, saidReturned}
+use Rattle.promise.proofs.Laws.{not-written, not-read, text-within, part-length, came-back}
 use borrow.Author.Needs.{needs}
-use Rattle.promise.proofs.Laws.{not-written, text-within, part-length, not-read, came-back}
 use Rattle.promise.proofs.there_and_back.Statement.{statement}
 use Rattle.promise.proofs.there_and_back.Tie as tie
-use Rattle.promise.proofs.there_and_back.Reads as reads
-use Rattle.promise.proofs.there_and_back.Lts as lts
-use Rattle.reader.proofs.parse_opb_data.Reads as parse-opb-data-reads
-use Rattle.writer.proofs.write_opb_lines.Reads as write-opb-lines-reads
 
-write-opb-lines-requires : tie.Need-write-opb-lines-requires
-write-opb-lines-requires c κs = search needs
+module _ (c : tie.After-foresee) where
+  abbrev start : tie.Start
+  start = c .before .before .before .before .before .before .before .before .before .before .before .before .before .before .before .before .before
+
+  abbrev rows-of : Table
+  rows-of = table (now (start .args .kinds)) (now (start .args .firsts)) (now (start .args .counts)) (now (start .args .bounds)) (now (start .args .weights)) (now (start .args .literals))
+
+  abbrev new-of : Table
+  new-of =
+      table (now (start .args .newkinds)) (now (start .args .newfirsts)) (now (start .args .newcounts)) (now (start .args .newbounds)) (now (start .args .newweights)) (now (start .args .newliterals))
+
+-- the text comes back
+module _ (c : tie.After-length) where
+  abbrev seen : tie.After-foresee
+  seen = c .before .before
+
+  abbrev l : ℕ
+  l = c .length .given .0 .0
+
+  abbrev n : ℕ
+  n = c .length .given .0 .1 .0
+
+  abbrev k : ℕ
+  k = c .length .given .0 .1 .1 .0
+
+  comes : back l (totalsOf n k) ≡ returning (start seen .args .mode) (new-of seen) (writing (start seen .args .mode) (rows-of seen) (now (start seen .args .text)) (length (now (start seen .args .out))))
+  comes = sym (ap saidReturned (c .length .given .1)) ∙ seen .foresee .ensures
+
+foresee-requires : tie.Need-foresee-requires
+foresee-requires c κs = search needs
 
 enum-known-number : tie.Need-enum-known-number
 enum-known-number c = search needs
 
-enum-known-n : tie.Need-enum-known-n
-enum-known-n c = search needs
+enum-known-number-2 : tie.Need-enum-known-number-2
+enum-known-number-2 c = search needs
+
+enum-known-length : tie.Need-enum-known-length
+enum-known-length c = search needs
+
+write-opb-lines-requires : tie.Need-write-opb-lines-requires
+write-opb-lines-requires c κs = search needs
 
 slice-reshare-prefix-parse-opb-data : tie.Need-slice-reshare-prefix-parse-opb-data
-slice-reshare-prefix-parse-opb-data c = text-within _ _ _ _ _ _ (c .before .before .before .before .before .write-opb-lines .ensures) _ (c .before .n .given .1)
+slice-reshare-prefix-parse-opb-data c =
+    let w = c .before .before in
+    let a = w .before .before .before in
+    let s = start (seen a) in
+    text-within (s .args .mode) (rows-of (seen a)) (now (s .args .text)) (now (s .args .out)) (new-of (seen a)) (l a) (n a) (k a) (comes a) _ _ (w .write-opb-lines .ensures)
 
 slice-aggregate-parse-opb-data : tie.Need-slice-aggregate-parse-opb-data
-slice-aggregate-parse-opb-data c = part-length _ _ _ _ _ _ (c .before .before .before .before .before .before .write-opb-lines .ensures) _ (c .before .before .n .given .1)
+slice-aggregate-parse-opb-data c =
+    let w = c .before .before .before in
+    let a = w .before .before .before in
+    let s = start (seen a) in
+    part-length (s .args .mode) (rows-of (seen a)) (now (s .args .text)) (now (s .args .out)) (new-of (seen a)) (l a) (n a) (k a) (comes a) _ _ (w .write-opb-lines .ensures)
 
 parse-opb-data-requires : tie.Need-parse-opb-data-requires
 parse-opb-data-requires c κs = search needs
 
-enum-known-number-2 : tie.Need-enum-known-number-2
-enum-known-number-2 c = search needs
-
-enum-known-rows : tie.Need-enum-known-rows
-enum-known-rows c = search needs
-
 same-length : tie.Need-same-length
 same-length c = search needs
-
-returns : tie.Need-returns
-returns c = not-written _ _ _ _ _ _ (c .before .before .before .before .before .write-opb-lines .ensures) _ _ _ (c .before .number .given .1)
 
 same-length-2 : tie.Need-same-length-2
 same-length-2 c = search needs
@@ -52,14 +90,17 @@ same-length-5 c = search needs
 same-length-6 : tie.Need-same-length-6
 same-length-6 c = search needs
 
+returns : tie.Need-returns
+returns c =
+    let d = c .before .before .before in
+    let s = start d in
+    not-written (s .args .mode) (rows-of d) (now (s .args .text)) (now (s .args .out)) (new-of d) _ _ (sym (ap saidReturned (c .before .number .given .1)) ∙ d .foresee .ensures)
+
 same-length-7 : tie.Need-same-length-7
 same-length-7 c = search needs
 
 same-length-8 : tie.Need-same-length-8
 same-length-8 c = search needs
-
-returns-2 : tie.Need-returns-2
-returns-2 c = not-read _ _ _ _ _ _ (c .before .before .before .before .before .before .before .before .before .before .before .before .before .before .before .before .before .before .before .before .before .before .before .before .before .before .write-opb-lines .ensures) _ (c .before .before .before .before .before .before .before .before .before .before .before .before .before .before .before .before .before .before .before .before .before .before .n .given .1) _ _ _ _ (rw (c .before .number2 .given .1) at (c .before .before .before .before .before .before .before .before .before .before .before .before .before .parse-opb-data .ensures))
 
 same-length-9 : tie.Need-same-length-9
 same-length-9 c = search needs
@@ -73,6 +114,12 @@ same-length-11 c = search needs
 same-length-12 : tie.Need-same-length-12
 same-length-12 c = search needs
 
+returns-2 : tie.Need-returns-2
+returns-2 c =
+    let d = c .before .before .before in
+    let s = start d in
+    not-read (s .args .mode) (rows-of d) (now (s .args .text)) (now (s .args .out)) (new-of d) _ _ (sym (ap saidReturned (c .before .number2 .given .1)) ∙ d .foresee .ensures)
+
 same-length-13 : tie.Need-same-length-13
 same-length-13 c = search needs
 
@@ -82,36 +129,57 @@ same-length-14 c = search needs
 same-length-15 : tie.Need-same-length-15
 same-length-15 c = search needs
 
+same-length-16 : tie.Need-same-length-16
+same-length-16 c = search needs
+
+same-length-17 : tie.Need-same-length-17
+same-length-17 c = search needs
+
+same-length-18 : tie.Need-same-length-18
+same-length-18 c = search needs
+
+same-length-19 : tie.Need-same-length-19
+same-length-19 c = search needs
+
 returns-3 : tie.Need-returns-3
-returns-3 c = came-back _ _ _ _ _ _ (c .before .before .before .before .before .before .before .before .before .before .before .before .before .before .before .before .before .before .before .before .before .before .before .before .before .before .write-opb-lines .ensures) _ (c .before .before .before .before .before .before .before .before .before .before .before .before .before .before .before .before .before .before .before .before .before .before .n .given .1) _ _ _ _ (rw (c .before .rows .given .1) at (c .before .before .before .before .before .before .before .before .before .before .before .before .before .parse-opb-data .ensures))
+returns-3 c =
+    let p = c .before .before .before .before .before .before .before .before .before .before in
+    let w = p .before .before .before .before .before .before .before .before .before .before in
+    let a = w .before .before .before in
+    let s = start (seen a) in
+    came-back (s .args .mode) (rows-of (seen a)) (now (s .args .text)) (now (s .args .out)) (new-of (seen a)) (l a) (n a) (k a) (comes a) _ _ (w .write-opb-lines .ensures) _ _ (p .parse-opb-data .ensures)
 
 pub there-and-back-spec : {M : Type 1} → statement M
 there-and-back-spec =
     tie.close
     (tie.spec
-    write-opb-lines-requires
+    foresee-requires
     enum-known-number
-    enum-known-n
+    enum-known-number-2
+    enum-known-length
+    write-opb-lines-requires
     slice-reshare-prefix-parse-opb-data
     slice-aggregate-parse-opb-data
     parse-opb-data-requires
-    enum-known-number-2
-    enum-known-rows
     same-length
-    returns
     same-length-2
     same-length-3
     same-length-4
     same-length-5
     same-length-6
+    returns
     same-length-7
     same-length-8
-    returns-2
     same-length-9
     same-length-10
     same-length-11
     same-length-12
+    returns-2
     same-length-13
     same-length-14
     same-length-15
+    same-length-16
+    same-length-17
+    same-length-18
+    same-length-19
     returns-3)

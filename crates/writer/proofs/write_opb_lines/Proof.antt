@@ -4,28 +4,28 @@ use native.Mathlib.Omega.{arith}
 use mathlib.Core.Path.{_≡_, sym, ap, _∙_}
 use denote.Ref.{now}
 use Rattle.definitions.specs.Table.{Table, table, accepted}
-use Rattle.writer.specs.Walks.{saidNeeded, neededFor}
+use Rattle.writer.specs.Walks.{saidMeasure, extentFor}
 use Rattle.writer.proofs.Whole.{writes-refused, writes-full, writes-ready, writes-done}
 use Rattle.writer.proofs.write_opb_lines.Statement.{statement}
 use Rattle.writer.proofs.write_opb_lines.Tie as tie
 
-abbrev start : tie.After-needed-length → tie.Start
+abbrev start : tie.After-measure-opb-lines → tie.Start
 start c = c .before .before .before .before .before .before .before
 
 abbrev rows-of : tie.Start → Table
 rows-of s = table (now (s .args .kinds)) (now (s .args .firsts)) (now (s .args .counts)) (now (s .args .bounds)) (now (s .args .weights)) (now (s .args .literals))
 
-measured : (c : tie.After-length) → accepted (c .length .given .0 .0) ≡ neededFor (start (c .before .before) .args .mode) (rows-of (start (c .before .before))) (now (start (c .before .before) .args .text))
-measured c = sym (ap saidNeeded (c .length .given .1)) ∙ c .before .before .needed-length .ensures
+measured : (c : tie.After-all) → accepted (c .all .given .0 .0) ≡ extentFor (start (c .before .before) .args .mode) (rows-of (start (c .before .before))) (now (start (c .before .before) .args .text))
+measured c = sym (ap saidMeasure (c .all .given .1)) ∙ c .before .before .measure-opb-lines .ensures
 
-needed-length-requires : tie.Need-needed-length-requires
-needed-length-requires c κs = search needs
+measure-opb-lines-requires : tie.Need-measure-opb-lines-requires
+measure-opb-lines-requires c κs = search needs
 
 enum-known-number : tie.Need-enum-known-number
 enum-known-number c = search needs
 
-enum-known-length : tie.Need-enum-known-length
-enum-known-length c = search needs
+enum-known-all : tie.Need-enum-known-all
+enum-known-all c = search needs
 
 returns : tie.Need-returns
 returns c =
@@ -40,7 +40,7 @@ write-lines-requires c κs =
 returns-2 : tie.Need-returns-2
 returns-2 c =
     let s = start (c .before .before .before) in
-    writes-refused (s .args .mode) (rows-of s) (now (s .args .text)) (now (s .args .out)) _ _ (sym (ap saidNeeded (c .before .number .given .1)) ∙ c .before .before .before .needed-length .ensures)
+    writes-refused (s .args .mode) (rows-of s) (now (s .args .text)) (now (s .args .out)) _ _ (sym (ap saidMeasure (c .before .number .given .1)) ∙ c .before .before .before .measure-opb-lines .ensures)
 
 same-length : tie.Need-same-length
 same-length c = search needs
@@ -55,9 +55,9 @@ pub write-opb-lines-spec : {M : Type 1} → statement M
 write-opb-lines-spec =
     tie.close
     (tie.spec
-    needed-length-requires
+    measure-opb-lines-requires
     enum-known-number
-    enum-known-length
+    enum-known-all
     returns
     write-lines-requires
     returns-2

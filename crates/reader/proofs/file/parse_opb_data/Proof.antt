@@ -1,4 +1,4 @@
--- `parse_opb_data` meets its contract: 1, what the first walk refuses, 9, 10, and the whole table (proofs/Files.antt).
+-- `parse_opb_data` meets its contract: what the first walk refuses, 9, 10, and the whole table (proofs/Files.antt).
 use Prim.Native.Nat.{ℕ, _≤_}
 use mathlib.Core.Path.{_≡_, sym, ap, _∙_}
 use mathlib.Core.List.{List}
@@ -9,7 +9,7 @@ use Rattle.definitions.specs.Limits.{fileLimit}
 use Rattle.definitions.specs.Table.{Table, table, rowRoom, termRoom}
 use Rattle.definitions.specs.File.{statements}
 use Rattle.reader.specs.Said.{saidCounted}
-use Rattle.reader.proofs.Files.{LinesAre, totals-accepted, read-long, read-broken, read-rows, read-terms, ready, read-whole}
+use Rattle.reader.proofs.Files.{FileIs, LinesAre, counted-accepted, read-broken, read-rows, read-terms, ready, read-whole}
 use borrow.Author.Needs.{needs}
 use Rattle.reader.proofs.file.parse_opb_data.Statement.{statement}
 use Rattle.reader.proofs.file.parse_opb_data.Tie as tie
@@ -21,13 +21,9 @@ module _ (c : tie.Start) where
   abbrev lent : Table
   lent = table (now (c .args .kinds)) (now (c .args .firsts)) (now (c .args .counts)) (now (c .args .bounds)) (now (c .args .weights)) (now (c .args .literals))
 
--- the file is within the limit
-module _ (c : tie.Else1) where
+module _ (c : tie.After-count-file) where
   abbrev start : tie.Start
   start = c .before .before .before .before .before .before
-
-  short : length (text start) ≤ fileLimit
-  short = c .if1 .left
 
 -- the file has read well, and the room was measured
 module _ (c : tie.After-term-room) where
@@ -37,8 +33,8 @@ module _ (c : tie.After-term-room) where
   abbrev told : tie.After-rows
   told = rows-measured .before .before .before .before .before .before
 
-  abbrev begun : tie.Else1
-  begun = told .before .before .before
+  abbrev begun : tie.After-count-file
+  begun = told .before .before
 
   abbrev many-rows : ℕ
   many-rows = told .rows .given .0 .0
@@ -46,8 +42,14 @@ module _ (c : tie.After-term-room) where
   abbrev many-terms : ℕ
   many-terms = told .rows .given .0 .1 .0
 
+  whole : FileIs (start begun .args .options) (text (start begun)) many-rows many-terms
+  whole = counted-accepted _ _ many-rows many-terms (sym (ap saidCounted (told .rows .given .1)) ∙ begun .count-file .ensures)
+
+  short : length (text (start begun)) ≤ fileLimit
+  short = whole .within
+
   found : LinesAre (statements (start begun .args .options) (text (start begun))) many-rows many-terms
-  found = totals-accepted _ many-rows many-terms (sym (ap saidCounted (told .rows .given .1)) ∙ told .before .before .count-file .ensures)
+  found = whole .lines
 
   rows-room : rows-measured .row-room .result ≡ rowRoom (lent (start begun))
   rows-room = rows-measured .row-room .ensures
@@ -56,18 +58,15 @@ module _ (c : tie.After-term-room) where
   terms-room = c .term-room .ensures
 
 -- both fit
-module _ (c : tie.Else3) where
+module _ (c : tie.Else2) where
   abbrev measured : tie.After-term-room
   measured = c .before .before
 
   rows-fit : many-rows measured ≤ rowRoom (lent (start (begun measured)))
-  rows-fit = omega (arith, rows-room measured, c .before .if2 .left)
+  rows-fit = omega (arith, rows-room measured, c .before .if1 .left)
 
   terms-fit : many-terms measured ≤ termRoom (lent (start (begun measured)))
-  terms-fit = omega (arith, terms-room measured, c .if3 .left)
-
-returns : tie.Need-returns
-returns c = read-long _ _ _ (c .if1 .taken)
+  terms-fit = omega (arith, terms-room measured, c .if2 .left)
 
 count-file-requires : tie.Need-count-file-requires
 count-file-requires c κs = search needs
@@ -102,11 +101,11 @@ same-length-5 c = search needs
 same-length-6 : tie.Need-same-length-6
 same-length-6 c = search needs
 
-returns-2 : tie.Need-returns-2
-returns-2 c =
+returns : tie.Need-returns
+returns c =
     let d = c .before in
     let e = begun d in
-    read-rows _ _ (lent (start e)) (short e) _ _ (found d) (omega (arith, rows-room d, c .if2 .taken))
+    read-rows _ _ (lent (start e)) (short d) _ _ (found d) (omega (arith, rows-room d, c .if1 .taken))
 
 same-length-7 : tie.Need-same-length-7
 same-length-7 c = search needs
@@ -126,22 +125,22 @@ same-length-11 c = search needs
 same-length-12 : tie.Need-same-length-12
 same-length-12 c = search needs
 
-returns-3 : tie.Need-returns-3
-returns-3 c =
+returns-2 : tie.Need-returns-2
+returns-2 c =
     let d = c .before .before in
     let e = begun d in
-    read-terms _ _ (lent (start e)) (short e) _ _ (found d) (omega (arith, rows-room d, c .before .if2 .left)) (omega (arith, terms-room d, c .if3 .taken))
+    read-terms _ _ (lent (start e)) (short d) _ _ (found d) (omega (arith, rows-room d, c .before .if1 .left)) (omega (arith, terms-room d, c .if2 .taken))
 
 fill-file-requires : tie.Need-fill-file-requires
 fill-file-requires c κs =
     let f = c .before .before .before .before .before .before in
     let e = begun (measured f) in
-    ready _ _ (lent (start e)) (short e) _ _ (found (measured f)) (rows-fit f) (terms-fit f)
+    ready _ _ (lent (start e)) (short (measured f)) _ _ (found (measured f)) (rows-fit f) (terms-fit f)
 
-returns-4 : tie.Need-returns-4
-returns-4 c =
+returns-3 : tie.Need-returns-3
+returns-3 c =
     let d = c .before .before .before in
-    read-broken _ _ _ (short (d .before)) _ _ (sym (ap saidCounted (c .before .number .given .1)) ∙ d .count-file .ensures)
+    read-broken _ _ _ _ _ (sym (ap saidCounted (c .before .number .given .1)) ∙ d .count-file .ensures)
 
 same-length-13 : tie.Need-same-length-13
 same-length-13 c = search needs
@@ -161,12 +160,12 @@ same-length-17 c = search needs
 same-length-18 : tie.Need-same-length-18
 same-length-18 c = search needs
 
-returns-5 : tie.Need-returns-5
-returns-5 c =
+returns-4 : tie.Need-returns-4
+returns-4 c =
     let g = c .before .before .before .before .before .before .before .before .before .before in
     let f = g .before .before .before .before .before .before .before in
     let e = begun (measured f) in
-    read-whole _ _ (lent (start e)) (short e) _ _ (found (measured f)) (rows-fit f) (terms-fit f)
+    read-whole _ _ (lent (start e)) (short (measured f)) _ _ (found (measured f)) (rows-fit f) (terms-fit f)
     (table (g .fill-file .last .1 .1 .0) (g .fill-file .last .1 .1 .1 .0) (g .fill-file .last .1 .1 .1 .1 .0) (g .fill-file .last .1 .1 .1 .1 .1 .0) (g .fill-file .last .1 .1 .1 .1 .1 .1 .0)
     (g .fill-file .last .1 .1 .1 .1 .1 .1 .1 .0))
     (g .fill-file .ensures)
@@ -175,7 +174,6 @@ pub parse-opb-data-spec : {M : Type 1} → statement M
 parse-opb-data-spec =
     tie.close
     (tie.spec
-    returns
     count-file-requires
     enum-known-number
     enum-known-rows
@@ -187,20 +185,20 @@ parse-opb-data-spec =
     same-length-4
     same-length-5
     same-length-6
-    returns-2
+    returns
     same-length-7
     same-length-8
     same-length-9
     same-length-10
     same-length-11
     same-length-12
-    returns-3
+    returns-2
     fill-file-requires
-    returns-4
+    returns-3
     same-length-13
     same-length-14
     same-length-15
     same-length-16
     same-length-17
     same-length-18
-    returns-5)
+    returns-4)

@@ -50,8 +50,8 @@ returns-2 c =
     let s = d .before .before .before in
     comment-broken (s .args .first) (s .args .count) (now (s .args .text)) (inside d) (sym (c .before .one-line .ensures) ∙ not-true (c .before .one-line .result) (c .if2 .taken))
 
-add-n : tie.Need-add-n
-add-n c = let d = c .before .before .before in omega (arith, within d, d .before .before .before .good)
+add-length : tie.Need-add-length
+add-length c = let d = c .before .before .before in omega (arith, within d, d .before .before .before .good)
 
 returns-3 : tie.Need-returns-3
 returns-3 c =
@@ -72,5 +72,5 @@ comment-length-spec =
     part-one-line-end
     one-line-requires
     returns-2
-    add-n
+    add-length
     returns-3)

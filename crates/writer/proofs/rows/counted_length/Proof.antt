@@ -1,6 +1,6 @@
--- `counted_length` meets its contract: 13, 5 and 8 in their order, or the terms with what stands around them.
+-- `counted_length` meets its contract: 13, 5 and 8 in their order, or what the terms come to with what stands around them.
 use borrow.Author.Needs.{needs}
-use mathlib.Core.Path.{_≡_, sym, ap, _∙_}
+use mathlib.Core.Path.{_≡_, sym, ap, ap₂, _∙_}
 use mathlib.Core.Bool.{false}
 use Prim.Native.Nat.{ℕ, _+_}
 use borrow.Author.Tests.{not-true, not-false}
@@ -12,7 +12,7 @@ use mir.Facts.{toZ-ofZ}
 use Rattle.definitions.specs.Refusal.{accept, needed}
 use Rattle.writer.specs.declared.bounds.Bound.{Bound}
 use Rattle.writer.specs.Bounds.{saidBound, printedBound}
-use Rattle.writer.specs.Rows.{frameText, lacksTerms, framed, countedLength}
+use Rattle.writer.specs.Rows.{frameText, frameLines, lacksTerms, framed, countedLength}
 use Rattle.writer.proofs.Measures.{counted-lacking, counted-unnumbered, counted-framed}
 use Rattle.writer.proofs.rows.counted_length.Statement.{statement}
 use Rattle.writer.proofs.rows.counted_length.Tie as tie
@@ -30,7 +30,7 @@ module _ (c : tie.After-printed-bound) where
   bound-said : saidBound (c .printed-bound .result) ≡ printedBound (start .args .shape .kind) (start .args .shape .bound) (start .args .t .sums .total) (start .args .t .sums .fall)
   bound-said = c .printed-bound .ensures ∙ rw (toZ-ofZ bound-fits)
 
-  framed-is : framed (start .args .shape .kind) (start .args .t .length) (saidBound (c .printed-bound .result)) ≡ countedLength (start .args .shape) (start .args .count) (start .args .t)
+  framed-is : framed (start .args .shape .kind) (start .args .t .length) (start .args .count) (saidBound (c .printed-bound .result)) ≡ countedLength (start .args .shape) (start .args .count) (start .args .t)
   framed-is =
       counted-framed (start .args .shape) (start .args .count) (start .args .t) (has-terms (c .before .before .before .before .before)) _
       (not-false (start .args .t .numbered) (c .before .before .before .if2 .left)) bound-said
@@ -58,24 +58,30 @@ frame-length-requires c κs = search needs
 add-length-requires : tie.Need-add-length-requires
 add-length-requires c κs = search needs
 
+frame-lines-requires : tie.Need-frame-lines-requires
+frame-lines-requires c κs = search needs
+
 enum-told : tie.Need-enum-told
 enum-told c = search needs
 
 returns-3 : tie.Need-returns-3
 returns-3 c =
-    let d = c .before .before .before .before .before in
+    let b = c .before in
+    let d = b .before .before .before .before .before in
     let s = start d in
-    let f : SFits w64 (c .before .before .before .z .given .0 .0) = record { sfits = c .before .before .known-told .given .0 .1 } in
-    ap accept (c .add-length .ensures
-    ∙ ap (λ (n : ℕ). needed (s .args .t .length + n)) (c .before .frame-length .ensures ∙ ap (λ (z : ℤ). length (frameText (s .args .shape .kind) z)) (toZ-ofZ f)))
-    ∙ sym (ap (λ (r : Bound). framed (s .args .shape .kind) (s .args .t .length) (saidBound r)) (c .before .before .before .z .given .1))
+    let f : SFits w64 (b .before .before .before .z .given .0 .0) = record { sfits = b .before .before .known-told .given .0 .1 } in
+    ap₂ (λ (l n : ℕ). accept (record { length = l; lines = n; terms = s .args .count }))
+    (b .add-length .ensures
+    ∙ ap (λ (n : ℕ). needed (s .args .t .length + n)) (b .before .frame-length .ensures ∙ ap (λ (z : ℤ). length (frameText (s .args .shape .kind) z)) (toZ-ofZ f)))
+    (c .frame-lines .ensures ∙ ap (frameLines (s .args .shape .kind)) (toZ-ofZ f))
+    ∙ sym (ap (λ (r : Bound). framed (s .args .shape .kind) (s .args .t .length) (s .args .count) (saidBound r)) (b .before .before .before .z .given .1))
     ∙ framed-is d
 
 returns-4 : tie.Need-returns-4
 returns-4 c =
     let d = c .before .before in
     let s = start d in
-    sym (ap (λ (r : Bound). framed (s .args .shape .kind) (s .args .t .length) (saidBound r)) (c .enum-told .given .1)) ∙ framed-is d
+    sym (ap (λ (r : Bound). framed (s .args .shape .kind) (s .args .t .length) (s .args .count) (saidBound r)) (c .enum-told .given .1)) ∙ framed-is d
 
 pub counted-length-spec : {M : Type 1} → statement M
 counted-length-spec =
@@ -88,6 +94,7 @@ counted-length-spec =
     enum-known-z
     frame-length-requires
     add-length-requires
+    frame-lines-requires
     enum-told
     returns-3
     returns-4)

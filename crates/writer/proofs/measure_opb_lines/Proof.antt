@@ -1,4 +1,4 @@
--- `needed_length` meets its contract: each turn counts one row (`Counting`, proofs/Rowwise.antt).
+-- `measure_opb_lines` meets its contract: each turn counts one row (`Counting`, proofs/Rowwise.antt).
 use native.Mathlib.Omega.{arith}
 use borrow.Author.Needs.{needs}
 use mathlib.Core.Path.{_≡_, ap, _∙_}
@@ -15,14 +15,14 @@ use Rattle.definitions.specs.Write.{writtenIn}
 use Rattle.columns.proofs.Terms.{entryAt}
 use Rattle.writer.specs.Rows.{measured, saidMeasured}
 use Rattle.writer.specs.Entries.{entryOf, onColumns}
-use Rattle.writer.proofs.needed_length.Statement.{statement}
-use Rattle.writer.proofs.needed_length.Tie as tie
+use Rattle.writer.proofs.measure_opb_lines.Statement.{statement}
+use Rattle.writer.proofs.measure_opb_lines.Tie as tie
 
 abbrev Inv-loop : tie.InvT-loop
-Inv-loop kinds firsts counts bounds weights literals text mode rows length₀ row₀ length row = Counting mode (table kinds firsts counts bounds weights literals) text row length
+Inv-loop kinds firsts counts bounds weights literals text mode rows all₀ row₀ all row = Counting mode (table kinds firsts counts bounds weights literals) text row all
 
 abbrev μ-loop : tie.MeasureT-loop
-μ-loop kinds firsts counts bounds weights literals text mode rows length₀ row₀ length row = rows - row
+μ-loop kinds firsts counts bounds weights literals text mode rows all₀ row₀ all row = rows - row
 
 module _ (c : tie.In-loop Inv-loop μ-loop) where
   abbrev turn : tie.At-loop Inv-loop μ-loop
@@ -86,8 +86,8 @@ entry-length-requires c κs = tt
 enum-known-more : tie.Need-enum-known-more Inv-loop μ-loop
 enum-known-more c = search needs
 
-add-length-requires : tie.Need-add-length-requires Inv-loop μ-loop
-add-length-requires c κs = tt
+add-extent-requires : tie.Need-add-extent-requires Inv-loop μ-loop
+add-extent-requires c κs = tt
 
 enum-known-number : tie.Need-enum-known-number Inv-loop μ-loop
 enum-known-number c = search needs
@@ -110,15 +110,15 @@ loop-again c =
     let d = c .before .before .before .before in
     let l = looped d in
     counting-more (args-of d .args .mode) (rows-of l) (now (args-of d .args .text)) (turn l .loop .inv) (below l) (saidMeasured (d .entry-length .result)) (said d)
-    _ _ (ap saidMeasured (c .before .before .more .given .1)) (c .add-length .ensures)
+    _ _ (ap saidMeasured (c .before .before .more .given .1)) (c .add-extent .ensures)
 
 returns-2 : tie.Need-returns-2 Inv-loop μ-loop
 returns-2 c =
     let r = c .before .before in
     counting-all _ _ _ (c .before .loop .inv) (omega (arith, c .loop-test .left, r .row-room .ensures))
 
-pub needed-length-spec : {M : Type 1} → statement M
-needed-length-spec =
+pub measure-opb-lines-spec : {M : Type 1} → statement M
+measure-opb-lines-spec =
     tie.close
     (tie.spec
     Inv-loop
@@ -134,7 +134,7 @@ needed-length-spec =
     shared-slice-copy-out-entry-length
     entry-length-requires
     enum-known-more
-    add-length-requires
+    add-extent-requires
     enum-known-number
     returns
     add-row
