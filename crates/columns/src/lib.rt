@@ -11,9 +11,6 @@ ghost use Rattle.definitions.specs.Limits.{inI64};
 ghost use Rattle.columns.specs.Sizes.{capped};
 ghost use Rattle.columns.specs.Parts.{codesIndexed, weightSizes};
 
-// "variable index: 1,073,741,823"
-const INDEX_LIMIT: u32 = 1_073_741_823;
-
 // The cap of specs/Sizes.antt: one more than M.
 const SIZE_CAP: u64 = 9_223_372_036_854_775_808;
 
@@ -60,8 +57,8 @@ pub fn indexed_of(literals: &[u32]) -> bool
 {
     let mut i: usize = 0;
     while i < literals.len() {
-        let v = Lit(literals[i]).var();
-        if v.0 > INDEX_LIMIT {
+        let v = Lit::of_code(literals[i]).var();
+        if !v.in_limit() {
             return false;
         }
         i += 1;

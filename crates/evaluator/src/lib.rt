@@ -51,7 +51,7 @@ fn is_true(literal: Lit, words: &[u64]) -> bool
     requires { ⌜ indexOf (literal .0) < 64 * length (now words) ⌝ }
     ensures { λ r. ⌜ r ≡ isTrue (assigned (now (words .entry))) (literal .0) ⌝ }
 {
-    let v = literal.var().0 as usize;
+    let v = literal.var().index() as usize;
     let word = words[v / 64];
     let one = (word >> (v % 64)) % 2 == 1;
     if literal.is_neg() { !one } else { one }
@@ -63,7 +63,7 @@ fn covered(literals: &[u32], words: &[u64]) -> bool
 {
     let mut i: usize = 0;
     while i < literals.len() {
-        let v = Lit(literals[i]).var().0 as usize;
+        let v = Lit::of_code(literals[i]).var().index() as usize;
         if v / 64 >= words.len() {
             return false;
         }
@@ -82,7 +82,7 @@ fn sum_of(weights: &[i64], literals: &[u32], words: &[u64]) -> i64
     let mut sum: i64 = 0;
     let mut i: usize = 0;
     while i < weights.len() {
-        if is_true(Lit(literals[i]), words) {
+        if is_true(Lit::of_code(literals[i]), words) {
             let w = weights[i];
             sum = sum + w;
         }

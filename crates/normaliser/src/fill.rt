@@ -48,10 +48,10 @@ fn fill_terms(weights: &[i64], literals: &[u32], outweights: &mut [i64], outlite
 {
     let mut i: usize = 0;
     while i < weights.len() {
-        let term = normal_term(weights[i], Lit(literals[i]));
+        let term = normal_term(weights[i], Lit::of_code(literals[i]));
         let weight = term.weight;
         outweights[i] = weight;
-        outliterals[i] = term.literal.0;
+        outliterals[i] = term.literal.code();
         i += 1;
     }
 }

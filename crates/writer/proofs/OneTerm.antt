@@ -81,7 +81,7 @@ module _ (s : Style) (w : ℤ) (c : ℕ) (v : Var) (i : v .0 ≡ indexOf c) (z :
       cases false p =
           shows-by (term w turned) _ (as-it-is p) e (sym n) i (rw p)
 
-pub shows-as : {s : Style} {w w′ : ℤ} {c : ℕ} {x : Shown} → Shows s (term w c) x → w ≡ w′ → Shows s (term w′ c) x
+pub shows-as : {s : Style} {t t′ : Term} {x : Shown} → Shows s t x → t ≡ t′ → Shows s t′ x
 shows-as h e = rw e at h
 
 pub shown-index : (s : Style) (t : Term) → indexOf (shownTerm s t .code) ≡ indexOf (t .code)

@@ -20,9 +20,6 @@ ghost use Rattle.writer.specs.Terms.{ownWeight, ownTerms, termWords, spa
 ghost use Rattle.writer.specs.Tallies.{sumsWith, noTally, tallyWith, lawful, tallied, saidTally};
 ghost use Rattle.writer.specs.Ready.{HasRoom, TermsReady, PutsTerms};
 
-// "variable index: 1,073,741,823"
-const INDEX_LIMIT: u32 = 1_073_741_823;
-
 const NEEDED_LIMIT: u64 = 18_446_744_073_709_551_615;
 
 // The sums of a row's weights, up to the cap of columns: of all, and of those that the bound falls by.
@@ -91,8 +88,7 @@ fn is_lawful(w: i64, l: Lit) -> bool
     if w < 0 {
         return false;
     }
-    let v = l.var();
-    v.0 <= INDEX_LIMIT
+    l.var().in_limit()
 }
 
 fn tally_term(t: Tally, style: Style, w: i64, l: Lit) -> Tally
@@ -130,7 +126,7 @@ pub(crate) fn tally_terms(style: Style, weights: &[i64], literals: &[u32]) -> Ta
     };
     let mut i: usize = 0;
     while i < literals.len() {
-        let l = Lit(literals[i]);
+        let l = Lit::of_code(literals[i]);
         let w = weight_at(style.unit, weights, i);
         if !is_lawful(w, l) {
             return Tallied::Refused;
@@ -167,7 +163,7 @@ pub(crate) fn put_terms(
     let mut sums = Sums { total: 0, fall: 0 };
     let mut i: usize = 0;
     while i < literals.len() {
-        let l = Lit(literals[i]);
+        let l = Lit::of_code(literals[i]);
         let w = weight_at(style.unit, weights, i);
         let x = show_term(style, w, l);
         sums = with_weight(sums, w, x.falls);

@@ -79,7 +79,7 @@ pub(crate) fn term_length(t: Shown, n: FileNumber) -> usize
     ensures { λ r. ⌜ r ≡ length (termWords t (n .0)) + 1 ⌝ }
 {
     let w = t.weight;
-    let digits = numbers::number_length(w) + numbers::count_length(n.0 as u64);
+    let digits = numbers::number_length(w) + numbers::count_length(n.number() as u64);
     if t.tilde { digits + 4 } else { digits + 3 }
 }
 
@@ -88,14 +88,15 @@ fn put_literal(tilde: bool, n: FileNumber, out: &mut [u8], at: usize) -> usize
     requires { ⌜ at + length (literalWords tilde (n .0)) ≤ length (now out) ⌝ }
     ensures { λ r. ⌜ Puts (literalWords tilde (n .0)) at (now (out .entry)) r (now (out .exit)) ⌝ }
 {
+    let number = n.number() as u64;
     out[at] = b' ';
     if tilde {
         out[at + 1] = b'~';
         out[at + 2] = b'x';
-        return put_count(n.0 as u64, out, at + 3);
+        return put_count(number, out, at + 3);
     }
     out[at + 1] = b'x';
-    put_count(n.0 as u64, out, at + 2)
+    put_count(number, out, at + 2)
 }
 
 fn put_term(t: Shown, n: FileNumber, out: &mut [u8], at: usize) -> usize

@@ -22,22 +22,28 @@ abbrev μ-loop : tie.MeasureT-loop
 loop-holds : tie.Need-loop-holds Inv-loop μ-loop
 loop-holds c = (omega arith, refl)
 
-mul-t5 : tie.Need-mul-t5 Inv-loop μ-loop
-mul-t5 c = omega arith
+mul-of-code : tie.Need-mul-of-code Inv-loop μ-loop
+mul-of-code c = omega arith
 
-shared-slice-read-t9 : tie.Need-shared-slice-read-t9 Inv-loop μ-loop
-shared-slice-read-t9 c = omega arith
+shared-slice-read-of-code : tie.Need-shared-slice-read-of-code Inv-loop μ-loop
+shared-slice-read-of-code c = omega arith
+
+of-code-requires : tie.Need-of-code-requires Inv-loop μ-loop
+of-code-requires c κs = search needs
 
 var-requires : tie.Need-var-requires Inv-loop μ-loop
 var-requires c κs = search needs
+
+index-requires : tie.Need-index-requires Inv-loop μ-loop
+index-requires c κs = search needs
 
 cast-v : tie.Need-cast-v Inv-loop μ-loop
 cast-v c = search needs
 
 returns : tie.Need-returns Inv-loop μ-loop
 returns c =
-    let l = c .before .before .before .before .before .loop in
-    let a = c .before .before .before .before .before .before .before .before .args in
+    let l = c .before .before .before .before .before .before .loop in
+    let a = c .before .before .before .before .before .before .before .before .before .args in
     let cs = now (a .literals) in
     sym (l .inv .1 ∙ every-fails _ cs (l .i) (omega arith) (le-ltb (indexOf (getD cs (l .i) 0)) (64 * length (now (a .words))) (omega arith)))
 
@@ -49,8 +55,8 @@ loop-less c = omega arith
 
 loop-again : tie.Need-loop-again Inv-loop μ-loop
 loop-again c =
-    let l = c .before .before .before .before .before .loop in
-    let a = c .before .before .before .before .before .before .before .before .args in
+    let l = c .before .before .before .before .before .before .loop in
+    let a = c .before .before .before .before .before .before .before .before .before .args in
     let cs = now (a .literals) in
     (omega arith, l .inv .1 ∙ every-passes _ cs (l .i) (omega arith) (lt-ltb (indexOf (getD cs (l .i) 0)) (64 * length (now (a .words))) (omega arith)))
 
@@ -64,9 +70,11 @@ covered-spec =
     Inv-loop
     μ-loop
     loop-holds
-    mul-t5
-    shared-slice-read-t9
+    mul-of-code
+    shared-slice-read-of-code
+    of-code-requires
     var-requires
+    index-requires
     cast-v
     returns
     add-i

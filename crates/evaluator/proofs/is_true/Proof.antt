@@ -8,6 +8,9 @@ use Rattle.evaluator.proofs.is_true.Tie as tie
 var-requires : tie.Need-var-requires
 var-requires c κs = search needs
 
+index-requires : tie.Need-index-requires
+index-requires c κs = search needs
+
 cast-v : tie.Need-cast-v
 cast-v c = search needs
 
@@ -25,19 +28,20 @@ is-neg-requires c κs = search needs
 
 returns : tie.Need-returns
 returns c =
-    let v = c .before .before .before .before .var in
-    true-negated _ _ (v .result .0) (v .ensures) (sym (c .before .is-neg .ensures) ∙ c .if1 .taken)
+    let v = c .before .before .before in
+    true-negated _ _ (v .index .result) (v .index .ensures ∙ v .before .var .ensures) (sym (c .before .is-neg .ensures) ∙ c .if1 .taken)
 
 returns-2 : tie.Need-returns-2
 returns-2 c =
-    let v = c .before .before .before .before .var in
-    true-plain _ _ (v .result .0) (v .ensures) (sym (c .before .is-neg .ensures) ∙ c .if1 .left)
+    let v = c .before .before .before in
+    true-plain _ _ (v .index .result) (v .index .ensures ∙ v .before .var .ensures) (sym (c .before .is-neg .ensures) ∙ c .if1 .left)
 
 pub is-true-spec : {M : Type 1} → statement M
 is-true-spec =
     tie.close
     (tie.spec
     var-requires
+    index-requires
     cast-v
     mul-word
     shared-slice-read-word

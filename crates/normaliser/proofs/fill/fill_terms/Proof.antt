@@ -4,6 +4,7 @@ use mathlib.Core.Path.{_≡_, sym, ap, _∙_}
 use mathlib.Core.List.{List, map-map}
 use Prim.Native.Nat.{ℕ, _-_, _≤_}
 use native.Mathlib.Omega.{arith}
+use borrow.Author.Needs.{needs}
 use denote.Ref.{now}
 use lib.IntN.{ℤ, pos}
 use lib.ListN.{length, getD}
@@ -13,7 +14,7 @@ use mir.Facts.{toZ-ofZ}
 use Rattle.definitions.specs.Lists.{over}
 use Rattle.definitions.specs.Row.{Term, term, weightOf, literalOf}
 use Rattle.definitions.specs.Table.{termsOn}
-use Rattle.definitions.specs.Normal.{normalTerm}
+use Rattle.definitions.specs.Normal.{normalBy, normalTerm}
 use Rattle.normaliser.specs.Fill.{saidTerm}
 use Rattle.normaliser.proofs.NormalTerms.{size-of-one, Written, written-none, written-length, written-more, written-all}
 use Rattle.normaliser.proofs.fill.fill_terms.Statement.{statement}
@@ -38,7 +39,7 @@ abbrev start : tie.At-loop Inv-loop μ-loop → tie.Start Inv-loop μ-loop
 start c = c .before .before .before
 
 abbrev turn : tie.After-struct-told Inv-loop μ-loop → tie.In-loop Inv-loop μ-loop
-turn c = c .before .before .before .before
+turn c = c .before .before .before .before .before
 
 -- ---- the columns keep their lengths
 
@@ -60,8 +61,8 @@ read c = let a = start (c .before) .args in term (getD (now (a .weights)) (c .be
 made : (c : tie.After-struct-told Inv-loop μ-loop) → saidTerm (c .before .normal-term .result) ≡ normalTerm (read (turn c))
 unfolding normalTerm
 made c =
-    let f : SFits w64 (read (turn c) .weight) = record { sfits = c .before .before .before .normal-term-arg .given } in
-    rw (toZ-ofZ f) at (c .before .normal-term .ensures)
+    let f : SFits w64 (read (turn c) .weight) = record { sfits = c .before .before .before .before .normal-term-arg .given } in
+    (rw (toZ-ofZ f) at (c .before .normal-term .ensures)) ∙ ap (normalBy (read (turn c) .weight)) (c .before .before .of-code .ensures)
 
 loop-holds : tie.Need-loop-holds Inv-loop μ-loop
 loop-holds c =
@@ -74,16 +75,19 @@ mul-normal-term c = omega (arith, c .loop-test .taken, start (c .before) .good)
 shared-slice-copy-out-normal-term : tie.Need-shared-slice-copy-out-normal-term Inv-loop μ-loop
 shared-slice-copy-out-normal-term c = c .loop-test .taken
 
-mul-t12 : tie.Need-mul-t12 Inv-loop μ-loop
-mul-t12 c = omega (arith, c .before .loop-test .taken, start (c .before .before) .good)
+mul-of-code : tie.Need-mul-of-code Inv-loop μ-loop
+mul-of-code c = omega (arith, c .before .loop-test .taken, start (c .before .before) .good)
 
-shared-slice-read-t14 : tie.Need-shared-slice-read-t14 Inv-loop μ-loop
-shared-slice-read-t14 c = omega (arith, c .before .before .loop-test .taken, start (c .before .before .before) .pre .even)
+shared-slice-read-of-code : tie.Need-shared-slice-read-of-code Inv-loop μ-loop
+shared-slice-read-of-code c = omega (arith, c .before .before .loop-test .taken, start (c .before .before .before) .pre .even)
+
+of-code-requires : tie.Need-of-code-requires Inv-loop μ-loop
+of-code-requires c κs = search needs
 
 normal-term-requires : tie.Need-normal-term-requires Inv-loop μ-loop
 normal-term-requires c κs =
-    let d = c .before .before in
-    let f : SFits w64 (read d .weight) = record { sfits = c .before .normal-term-arg .given } in
+    let d = c .before .before .before in
+    let f : SFits w64 (read d .weight) = record { sfits = c .before .before .normal-term-arg .given } in
     rw (toZ-ofZ f) (omega (arith, size-of-one (now (start (d .before) .args .weights)) (d .before .loop .i) (d .loop-test .taken), start (d .before) .pre .small))
 
 mul-weight : tie.Need-mul-weight Inv-loop μ-loop
@@ -92,27 +96,31 @@ mul-weight c = let l = turn c .before in omega (arith, turn c .loop-test .taken,
 slice-set-from-weight : tie.Need-slice-set-from-weight Inv-loop μ-loop
 slice-set-from-weight c = let l = turn c .before in omega (arith, turn c .loop-test .taken, start l .pre .weights, weights-long l)
 
+code-requires : tie.Need-code-requires Inv-loop μ-loop
+code-requires c κs = search needs
+
 mul-outliterals : tie.Need-mul-outliterals Inv-loop μ-loop
-mul-outliterals c = let l = turn c .before in omega (arith, turn c .loop-test .taken, start l .pre .literals, start l .good)
+mul-outliterals c = let l = turn (c .before) .before in omega (arith, turn (c .before) .loop-test .taken, start l .pre .literals, start l .good)
 
 slice-write-outliterals : tie.Need-slice-write-outliterals Inv-loop μ-loop
-slice-write-outliterals c = let l = turn c .before in omega (arith, turn c .loop-test .taken, start l .pre .literals, literals-long l)
+slice-write-outliterals c = let l = turn (c .before) .before in omega (arith, turn (c .before) .loop-test .taken, start l .pre .literals, literals-long l)
 
 add-i : tie.Need-add-i Inv-loop μ-loop
-add-i c = omega (arith, turn c .loop-test .taken, start (turn c .before) .good)
+add-i c = omega (arith, turn (c .before) .loop-test .taken, start (turn (c .before) .before) .good)
 
 loop-less : tie.Need-loop-less Inv-loop μ-loop
-loop-less c = omega (arith, turn c .loop-test .taken)
+loop-less c = omega (arith, turn (c .before) .loop-test .taken)
 
 loop-again : tie.Need-loop-again Inv-loop μ-loop
 loop-again c =
-    let l = turn c .before in
+    let k = c .before in
+    let l = turn k .before in
     let s = start l in
-    let h = turn c .loop-test .taken in
-    let f : SFits w64 (c .before .normal-term .result .weight) = record { sfits = c .struct-told .given .0 .1 } in (
+    let h = turn k .loop-test .taken in
+    let f : SFits w64 (k .before .normal-term .result .weight) = record { sfits = k .struct-told .given .0 .1 } in (
       omega (arith, h),
-      written-more weightTo (now (s .args .weights)) (now (s .args .literals)) (now (s .args .outweights)) (s .pre .even) (s .pre .weights) (l .loop .outweights) (l .loop .i) (l .loop .inv .0) (l .loop .inv .1) h _ (toZ-ofZ f ∙ ap weightOf (made c)),
-      written-more literalTo (now (s .args .weights)) (now (s .args .literals)) (now (s .args .outliterals)) (s .pre .even) (s .pre .literals) (l .loop .outliterals) (l .loop .i) (l .loop .inv .0) (l .loop .inv .2) h _ (ap literalOf (made c)),
+      written-more weightTo (now (s .args .weights)) (now (s .args .literals)) (now (s .args .outweights)) (s .pre .even) (s .pre .weights) (l .loop .outweights) (l .loop .i) (l .loop .inv .0) (l .loop .inv .1) h _ (toZ-ofZ f ∙ ap weightOf (made k)),
+      written-more literalTo (now (s .args .weights)) (now (s .args .literals)) (now (s .args .outliterals)) (s .pre .even) (s .pre .literals) (l .loop .outliterals) (l .loop .i) (l .loop .inv .0) (l .loop .inv .2) h _ (c .code .ensures ∙ ap literalOf (made k)),
     )
 
 same-length : tie.Need-same-length Inv-loop μ-loop
@@ -146,11 +154,13 @@ fill-terms-spec =
     loop-holds
     mul-normal-term
     shared-slice-copy-out-normal-term
-    mul-t12
-    shared-slice-read-t14
+    mul-of-code
+    shared-slice-read-of-code
+    of-code-requires
     normal-term-requires
     mul-weight
     slice-set-from-weight
+    code-requires
     mul-outliterals
     slice-write-outliterals
     add-i

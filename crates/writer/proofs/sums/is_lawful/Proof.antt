@@ -13,11 +13,15 @@ returns c = sym (negative-unlawful (c .before .args .l .0) (c .before .args .w) 
 var-requires : tie.Need-var-requires
 var-requires c κs = search needs
 
+in-limit-requires : tie.Need-in-limit-requires
+in-limit-requires c κs = search needs
+
 returns-2 : tie.Need-returns-2
 returns-2 c =
     let s = c .before .before .before in
-    ap isIndex (c .before .var .ensures)
+    c .in-limit .ensures
+    ∙ ap isIndex (c .before .var .ensures)
     ∙ sym (lawful-index (s .args .l .0) (s .args .w) (rw (toZ-ofZ (s .fits .w)) at (c .before .before .if1 .left)))
 
 pub is-lawful-spec : {M : Type 1} → statement M
-is-lawful-spec = tie.close (tie.spec returns var-requires returns-2)
+is-lawful-spec = tie.close (tie.spec returns var-requires in-limit-requires returns-2)

@@ -1,6 +1,6 @@
 -- `put_terms` meets its contract: each turn writes one term (`Putting`, proofs/AllTerms.antt).
 use native.Mathlib.Omega.{arith}
-use mathlib.Core.Path.{_≡_, ap, _∙_}
+use mathlib.Core.Path.{_≡_, ap, ap₂, _∙_}
 use Prim.Native.Nat.{ℕ, _+_, _-_}
 use borrow.Author.Needs.{sfits-of}
 use lib.IntN.{ℤ, pos}
@@ -32,7 +32,7 @@ abbrev μ-loop : tie.MeasureT-loop
 -- the term at i
 module _ (c : tie.After-weight-at Inv-loop μ-loop) where
   abbrev turn : tie.At-loop Inv-loop μ-loop
-  turn = c .before .before .before
+  turn = c .before .before .before .before
 
   abbrev start : tie.Start Inv-loop μ-loop
   start = turn .before .before .before
@@ -46,6 +46,9 @@ module _ (c : tie.After-weight-at Inv-loop μ-loop) where
   weight-is : toZ w64 (ofZ w64 (c .weight-at .result)) ≡ own
   weight-is = toZ-ofZ (sfits-of (c .weight-at .ok)) ∙ c .weight-at .ensures
 
+  term-is : term (toZ w64 (ofZ w64 (c .weight-at .result))) (c .before .of-code .result .0) ≡ term own code
+  term-is = ap₂ term weight-is (c .before .of-code .ensures)
+
 module _ (c : tie.After-show-term Inv-loop μ-loop) where
   abbrev style : Style
   style = start (c .before) .args .style
@@ -54,7 +57,7 @@ module _ (c : tie.After-show-term Inv-loop μ-loop) where
   shown = c .show-term .result
 
   shows : Shows style (term (own (c .before)) (code (c .before))) shown
-  shows = shows-as (c .show-term .ensures) (weight-is (c .before))
+  shows = shows-as (c .show-term .ensures) (term-is (c .before))
 
   words : spacedBy (style .apart) (termWords shown (shown .var .0 + style .first)) ≡ shownText style (term (own (c .before)) (code (c .before)))
   words = spaced-words shows (shown .var .0 + style .first) (ap (λ (v : ℕ). v + style .first) (shows .var))
@@ -62,17 +65,20 @@ module _ (c : tie.After-show-term Inv-loop μ-loop) where
 loop-holds : tie.Need-loop-holds Inv-loop μ-loop
 loop-holds c = putting-none (c .before .before .pre)
 
-mul-t12 : tie.Need-mul-t12 Inv-loop μ-loop
-mul-t12 c = omega (arith, c .before .before .before .before .good)
+mul-of-code : tie.Need-mul-of-code Inv-loop μ-loop
+mul-of-code c = omega (arith, c .before .before .before .before .good)
 
-shared-slice-read-t15 : tie.Need-shared-slice-read-t15 Inv-loop μ-loop
-shared-slice-read-t15 c = c .before .loop-test .taken
+shared-slice-read-of-code : tie.Need-shared-slice-read-of-code Inv-loop μ-loop
+shared-slice-read-of-code c = c .before .loop-test .taken
+
+of-code-requires : tie.Need-of-code-requires Inv-loop μ-loop
+of-code-requires c κs = tt
 
 weight-at-requires : tie.Need-weight-at-requires Inv-loop μ-loop
-weight-at-requires c κs = omega (arith, c .before .before .before .before .before .pre .long)
+weight-at-requires c κs = omega (arith, c .before .before .before .before .before .before .pre .long)
 
 show-term-requires : tie.Need-show-term-requires Inv-loop μ-loop
-show-term-requires c κs = ap nonNeg (weight-is c) ∙ putting-weighs (start c .pre) (turn c .loop .inv) (c .before .before .loop-test .taken)
+show-term-requires c κs = ap nonNeg (weight-is c) ∙ putting-weighs (start c .pre) (turn c .loop .inv) (c .before .before .before .loop-test .taken)
 
 with-weight-requires : tie.Need-with-weight-requires Inv-loop μ-loop
 with-weight-requires c κs = tt
@@ -81,14 +87,14 @@ put-shown-requires : tie.Need-put-shown-requires Inv-loop μ-loop
 put-shown-requires c κs =
     let d = c .before .before in
     let b = d .before in
-    let h = b .before .before .loop-test .taken in
+    let h = b .before .before .before .loop-test .taken in
     record {
       numbered = ap (λ (v : ℕ). isAccepted (fileNumber (style d .first) v)) (shows d .var) ∙ putting-numbered (start b .pre) (turn b .loop .inv) h;
       room = omega (arith, putting-room (start b .pre) (turn b .loop .inv) h, ap length (words d));
     }
 
 add-i : tie.Need-add-i Inv-loop μ-loop
-add-i c = omega (arith, c .before .before .before .before .before .before .before .before .before .before .before .before .good)
+add-i c = omega (arith, c .before .before .before .before .before .before .before .before .before .before .before .before .before .good)
 
 loop-less : tie.Need-loop-less Inv-loop μ-loop
 loop-less c = omega arith
@@ -97,7 +103,7 @@ loop-again : tie.Need-loop-again Inv-loop μ-loop
 loop-again c =
     let d = c .before .before .before .before .before in
     let b = d .before in
-    putting-more (start b .pre) (turn b .loop .inv) (b .before .before .loop-test .taken) (puts-as (c .before .before .put-shown .ensures) (words d))
+    putting-more (start b .pre) (turn b .loop .inv) (b .before .before .before .loop-test .taken) (puts-as (c .before .before .put-shown .ensures) (words d))
     (c .before .before .before .before .with-weight .ensures
     ∙ ap (λ (w : ℤ). sumsWith (turn b .loop .sums) w (shown d .falls)) (weight-is b)
     ∙ ap (sumsWith (turn b .loop .sums) (own b)) (shows d .falls))
@@ -115,8 +121,9 @@ put-terms-spec =
     Inv-loop
     μ-loop
     loop-holds
-    mul-t12
-    shared-slice-read-t15
+    mul-of-code
+    shared-slice-read-of-code
+    of-code-requires
     weight-at-requires
     show-term-requires
     with-weight-requires
