@@ -81,13 +81,8 @@ size-eq : {n n′ m m′ : ℕ} → n ≡ n′ → m ≡ m′ → _≡_ {A = Siz
 size-eq p q = cc
 
 module _ (first : ℕ) (ws : List ℤ) (cs : List ℕ) where
-  pub comment-sized : (e : Entry) (n : ℕ) → e .kind ≡ 0 → e .count < 2 ^ 64 → n ≡ length (decimal (e .count)) + 3
-      → accept (record { terms = 0; length = n }) ≡ sizeIn first (lineOn ws cs e)
-  unfolding needed
-  comment-sized e n k f q =
-      let l : length (commentLine (e .count)) ≡ length (decimal (e .count)) + 3 = omega (arith, length-append (field (decimal (e .count))) (lf ∷ [])) in
-      rw (comment-entry ws cs e k, comment-words first (e .first) (e .count) (e .bound))
-      (ap accept (size-eq refl (omega (arith, q, l, count-length-most (e .count) f))))
+  pub comment-sized : (e : Entry) (n : ℕ) → e .kind ≡ 0 → n ≡ needed (length (commentLine (e .count))) → accept (record { terms = 0; length = n }) ≡ sizeIn first (lineOn ws cs e)
+  comment-sized e n k q = rw (comment-entry ws cs e k, comment-words first (e .first) (e .count) (e .bound)) (ap accept (size-eq refl q))
 
   module _ (k : ℕ) (b : ℤ) (long : length ws ≡ length cs) where
     pub row-refused : codesIndexed cs ≡ false → refuse 11 ≡ sizeIn first (rowOn k b ws cs)

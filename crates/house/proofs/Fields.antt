@@ -1,21 +1,29 @@
 -- Laws of the fields of terms: the text of a literal, the lengths, and the walk over the terms of a row.
 use mathlib.Core.Path.{_≡_, refl, sym, ap, _∙_}
-use mathlib.Core.Bool.{true, false}
+use mathlib.Core.Bool.{Bool, true, false, cond}
 use mathlib.Core.List.{List, [], _∷_, _++_, append-assoc, append-nil}
 use Prim.Native.Nat.{ℕ, _+_, _≤_, _<_}
 use native.Mathlib.Omega.{arith}
 use lib.IntN.{ℤ, pos}
 use lib.ListN.{length, getD, drop, length-append}
 use Rattle.definitions.specs.Lists.{joined}
-use Rattle.definitions.specs.Refusal.{needed}
+use lib.Dec.{leb}
+use Rattle.definitions.specs.Limits.{fileNumberLimit}
+use Rattle.definitions.specs.Refusal.{needed, refuse, accept}
 use Rattle.definitions.specs.Number.{decimal, integerText}
-use Rattle.definitions.specs.Literal.{indexOf, negated}
+use Rattle.definitions.specs.Literal.{indexOf, negated, fileNumber}
 use Rattle.definitions.specs.Row.{Term, term}
 use Rattle.definitions.specs.Table.{termsOn}
-use Rattle.definitions.specs.Write.{numberText, literalText}
+use Rattle.definitions.specs.Write.{numberText, literalText, isAccepted}
 use Rattle.definitions.specs.House.{field, termFields}
 use Rattle.definitions.proofs.Puts.{needed-add, needed-both}
+use Rattle.symbols.specs.declared.types.FileNumber.{FileNumber}
+use Rattle.symbols.specs.declared.types.FileNumberRead.{FileNumberRead}
+use Rattle.symbols.specs.declared.types.FileNumberRead.the-variants as file-number
+use Rattle.symbols.specs.Said.{saidFileNumber}
 use Rattle.columns.proofs.Terms.{terms-from, terms-end}
+use Rattle.house.specs.Words.{literalWords, termWords}
+use Rattle.house.specs.Sizes.{termLength}
 
 -- ---- one term
 
@@ -39,6 +47,46 @@ module _ (first : ℕ) (w : ℤ) (c : ℕ) where
 
   pub plain-term-length : negated c ≡ false → length (termFields first (term w c)) ≡ length (integerText w) + length (decimal (indexOf c + first)) + 3
   plain-term-length e = omega (arith, term-fields-length first w c, ap length (literal-plain first c e))
+
+module _ (w : ℤ) (b : Bool) (n : ℕ) where
+  words-length : length (termWords w b n) ≡ length (integerText w) + length (literalWords b n) + 2
+  words-length = omega (arith, length-append (field (integerText w)) (field (literalWords b n)))
+
+  pub tilde-words-length : b ≡ true → length (termWords w b n) ≡ length (integerText w) + length (decimal n) + 4
+  tilde-words-length e = omega (arith, words-length, ap (λ (x : Bool). length (literalWords x n)) e)
+
+  pub plain-words-length : b ≡ false → length (termWords w b n) ≡ length (integerText w) + length (decimal n) + 3
+  plain-words-length e = omega (arith, words-length, ap (λ (x : Bool). length (literalWords x n)) e)
+
+-- ---- the file number of a variable
+
+module _ (first v : ℕ) (r : FileNumberRead) (e : saidFileNumber r ≡ fileNumber first v) where
+  pub number-is : (n : FileNumber) → r ≡ file-number.Is n → (n .0 ≡ v + first) × (isAccepted (fileNumber first v) ≡ true)
+  unfolding fileNumber
+  number-is n q = (value (leb (v + first) fileNumberLimit) (sym (ap saidFileNumber q) ∙ e), ap isAccepted (sym e ∙ ap saidFileNumber q))
+    where
+      value : (b : Bool) → accept (n .0) ≡ cond b (accept (v + first)) (refuse 5) → n .0 ≡ v + first
+      value true p = cc
+      value false p = let z : _≡_ {A = ℕ} 0 1 = cc in absurd (omega arith)
+
+  pub no-number : r ≡ file-number.OutOfRange → isAccepted (fileNumber first v) ≡ false
+  no-number q = ap isAccepted (sym e ∙ ap saidFileNumber q)
+
+-- a term by its literal's file number
+module _ (first : ℕ) (w : ℤ) (c : ℕ) where
+  pub term-words : (n : ℕ) → n ≡ indexOf c + first → termWords w (negated c) n ≡ termFields first (term w c)
+  unfolding termFields literalText numberText
+  term-words n e = ap (λ (s : List ℕ). field (integerText w) ++ field s) (by (negated c))
+    where
+      by : (b : Bool) → literalWords b n ≡ cond b (126 ∷ 120 ∷ decimal (indexOf c + first)) (120 ∷ decimal (indexOf c + first))
+      by true = rw e
+      by false = rw e
+
+  pub length-numbered : (n k : ℕ) → n ≡ indexOf c + first → isAccepted (fileNumber first (indexOf c)) ≡ true → k ≡ length (termWords w (negated c) n) → accept k ≡ termLength first (term w c)
+  length-numbered n k e a l = rw a (ap accept (l ∙ ap length (term-words n e)))
+
+  pub length-unnumbered : isAccepted (fileNumber first (indexOf c)) ≡ false → refuse 5 ≡ termLength first (term w c)
+  length-unnumbered a = rw a
 
 -- ---- lengths up to the limit of a needed number
 

@@ -1,12 +1,12 @@
 -- Rows and their texts in the words of the code: a kind by its number, the terms by their part of the two columns. proofs/ ties each to the definitions.
 use Prim.Native.Nat.{ℕ}
-use mathlib.Core.Bool.{cond}
+use mathlib.Core.Bool.{Bool, true, false, cond}
 use mathlib.Core.List.{List, [], _∷_, _++_}
 use lib.IntN.{ℤ}
 use lib.ListN.{take}
 use Rattle.definitions.specs.Refusal.{Checked, refuse, accept}
-use Rattle.definitions.specs.Bytes.{tab, lf}
-use Rattle.definitions.specs.Number.{decimal}
+use Rattle.definitions.specs.Bytes.{tab, lf, letterX, tilde}
+use Rattle.definitions.specs.Number.{decimal, integerText}
 use Rattle.definitions.specs.Row.{Kind, Line, row, rowOf}
 use Rattle.definitions.specs.Table.{Table, table, Outcome, Entry, entries, termsOn, indexed, rowByRow, lineIn}
 use Rattle.definitions.specs.House.{field, kindWord}
@@ -36,3 +36,12 @@ commentLine n = 99 ∷ (field (decimal n) ++ (lf ∷ []))
 -- of rows, terms, first index
 abbrev pub headText : ℕ → ℕ → ℕ → List ℕ
 headText rows terms first = (111 ∷ 112 ∷ 98 ∷ []) ++ (field (decimal rows) ++ (field (decimal terms) ++ (field (decimal first) ++ (lf ∷ []))))
+
+-- a literal by its sign and its file number
+abbrev pub literalWords : Bool → ℕ → List ℕ
+literalWords true n = tilde ∷ letterX ∷ decimal n
+literalWords false n = letterX ∷ decimal n
+
+-- the fields of a term, the literal by its sign and its file number
+abbrev pub termWords : ℤ → Bool → ℕ → List ℕ
+termWords w b n = field (integerText w) ++ field (literalWords b n)

@@ -9,8 +9,8 @@ ghost use Rattle.definitions.specs.Number.{integerText};
 ghost use Rattle.definitions.specs.Table.{table};
 ghost use Rattle.definitions.specs.House.{kindWord};
 ghost use Rattle.columns.specs.Kinds.{readKind};
-ghost use Rattle.house.specs.Words.{wordField, headText, rowOn, lineOn, linesOf};
-ghost use Rattle.house.specs.Sizes.{saidSize, sizeIn, saidMeasured, sizesIn};
+ghost use Rattle.house.specs.Words.{commentLine, wordField, headText, rowOn, lineOn, linesOf};
+ghost use Rattle.house.specs.Sizes.{lineLength, saidSize, sizeIn, saidMeasured, sizesIn};
 
 // The numbers of the read rows in the column of kinds are 0 to 4.
 pub(crate) const COMMENT: u8 = 0;
@@ -45,12 +45,30 @@ fn word_length(kind: u8) -> usize
     }
 }
 
+// `c`, a tab, the length of the text and an LF.
+fn comment_length(count: usize) -> u64
+    ensures { λ r. ⌜ r ≡ needed (length (commentLine count)) ⌝ }
+{
+    let length = 3 + numbers::count_length(count as u64);
+    length as u64
+}
+
 // Behind the word stand a tab, the bound, the terms and an LF.
-fn line_length(kind: u8, bound: i64, terms: u64) -> u64
+fn row_length(kind: u8, bound: i64, terms: u64) -> u64
     ensures { λ r. ⌜ r ≡ needed (terms + (length (wordField (readKind kind)) + (length (integerText bound) + 1))) ⌝ }
 {
     let more = word_length(kind) + numbers::number_length(bound) + 2;
     add_needed(terms, more as u64)
+}
+
+// The length of a row's line, from the length of its terms' fields.
+pub fn line_length(kind: u8, count: usize, bound: i64, terms: u64) -> u64
+    ensures { λ r. ⌜ r ≡ lineLength kind count bound terms ⌝ }
+{
+    if kind == COMMENT {
+        return comment_length(count);
+    }
+    row_length(kind, bound, terms)
 }
 
 // A row of a read kind, whose terms lie in their columns: the rest of 11.
@@ -64,7 +82,7 @@ fn measure_line(kind: u8, bound: i64, weights: &[i64], literals: &[u32], first: 
     let terms = terms_length(weights, literals, first);
     RowSize::Is(Size {
         terms: literals.len() as u64,
-        length: line_length(kind, bound, terms),
+        length: row_length(kind, bound, terms),
     })
 }
 
@@ -81,11 +99,9 @@ fn measure_row(
     ensures { λ r. ⌜ saidSize r ≡ sizeIn first (lineOn (now (weights .entry)) (now (literals .entry)) (record { kind = kind; first = start; count = count; bound = bound })) ⌝ }
 {
     if kind == COMMENT {
-        // `c`, a tab, the length of the text and an LF
-        let length = 3 + numbers::count_length(count as u64);
         return RowSize::Is(Size {
             terms: 0,
-            length: length as u64,
+            length: comment_length(count),
         });
     }
     if kind > OBJECTIVE {
@@ -146,11 +162,11 @@ pub(crate) fn measure_rows(
     Measured::Lines(n, all)
 }
 
-// The length with the head: `opb`, three tabs, rows, terms, first index and an LF.
-pub(crate) fn whole_length(rows: usize, all: Size, first: u32) -> u64
-    ensures { λ r. ⌜ r ≡ needed (all .length + length (headText rows (all .terms) first)) ⌝ }
+// The length with the head: `opb`, three tabs, rows, terms, first index and an LF. The lines have the length `lines`.
+pub fn text_length(rows: usize, terms: u64, lines: u64, first: u32) -> u64
+    ensures { λ r. ⌜ r ≡ needed (lines + length (headText rows terms first)) ⌝ }
 {
-    let counts = numbers::count_length(rows as u64) + numbers::count_length(all.terms);
+    let counts = numbers::count_length(rows as u64) + numbers::count_length(terms);
     let head = 7 + counts + numbers::count_length(first as u64);
-    add_needed(all.length, head as u64)
+    add_needed(lines, head as u64)
 }

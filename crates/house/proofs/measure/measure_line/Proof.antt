@@ -20,8 +20,8 @@ returns c =
 terms-length-requires : tie.Need-terms-length-requires
 terms-length-requires c κs = search needs
 
-line-length-requires : tie.Need-line-length-requires
-line-length-requires c κs = search needs
+row-length-requires : tie.Need-row-length-requires
+row-length-requires c κs = search needs
 
 returns-2 : tie.Need-returns-2
 returns-2 c =
@@ -30,9 +30,9 @@ returns-2 c =
     let s = d .before .before in
     row-sized (s .args .first) (now (s .args .weights)) (now (s .args .literals)) (s .args .kind) (s .args .bound) (s .pre) _ _ _
     (sym (d .indexed-of .ensures) ∙ not-false (d .indexed-of .result) (t .before .if1 .left)) refl (t .terms-length .ensures)
-    (rw (toZ-ofZ (s .fits .bound)) at (c .line-length .ensures))
+    (rw (toZ-ofZ (s .fits .bound)) at (c .row-length .ensures))
 
 pub measure-line-spec : {M : Type 1} → statement M
 measure-line-spec =
     tie.close
-    (tie.spec indexed-of-requires returns terms-length-requires line-length-requires returns-2)
+    (tie.spec indexed-of-requires returns terms-length-requires row-length-requires returns-2)

@@ -21,7 +21,7 @@ abbrev μ-loop : tie.MeasureT-loop
 μ-loop weights literals first total₀ i₀ total i = length literals - i
 
 -- the term at i
-module _ (c : tie.After-term-length Inv-loop μ-loop) where
+module _ (c : tie.After-listed-length Inv-loop μ-loop) where
   abbrev turn : tie.At-loop Inv-loop μ-loop
   turn = c .before .before .before .before
 
@@ -31,17 +31,17 @@ module _ (c : tie.After-term-length Inv-loop μ-loop) where
   abbrev here : Term
   here = term (getD (now (start .args .weights)) (turn .loop .i) (pos 0)) (getD (now (start .args .literals)) (turn .loop .i) 0)
 
-  counted : c .term-length .result ≡ length (termFields (start .args .first) here)
-  counted = c .term-length .ensures ∙ rw (toZ-ofZ (sfits-of (c .before .before .term-length-arg .given)))
+  counted : c .listed-length .result ≡ length (termFields (start .args .first) here)
+  counted = c .listed-length .ensures ∙ rw (toZ-ofZ (sfits-of (c .before .before .listed-length-arg .given)))
 
 loop-holds : tie.Need-loop-holds Inv-loop μ-loop
 loop-holds c = terms-none _ _ _ (unfold needed in refl)
 
-mul-term-length : tie.Need-mul-term-length Inv-loop μ-loop
-mul-term-length c = omega (arith, c .before .before .before .good, c .before .before .before .pre)
+mul-listed-length : tie.Need-mul-listed-length Inv-loop μ-loop
+mul-listed-length c = omega (arith, c .before .before .before .good, c .before .before .before .pre)
 
-shared-slice-copy-out-term-length : tie.Need-shared-slice-copy-out-term-length Inv-loop μ-loop
-shared-slice-copy-out-term-length c = omega (arith, c .before .before .before .pre)
+shared-slice-copy-out-listed-length : tie.Need-shared-slice-copy-out-listed-length Inv-loop μ-loop
+shared-slice-copy-out-listed-length c = omega (arith, c .before .before .before .pre)
 
 mul-t11 : tie.Need-mul-t11 Inv-loop μ-loop
 mul-t11 c = omega (arith, c .before .before .before .before .good)
@@ -49,8 +49,8 @@ mul-t11 c = omega (arith, c .before .before .before .before .good)
 shared-slice-read-t13 : tie.Need-shared-slice-read-t13 Inv-loop μ-loop
 shared-slice-read-t13 c = c .before .before .loop-test .taken
 
-term-length-requires : tie.Need-term-length-requires Inv-loop μ-loop
-term-length-requires c κs = tt
+listed-length-requires : tie.Need-listed-length-requires Inv-loop μ-loop
+listed-length-requires c κs = tt
 
 add-needed-requires : tie.Need-add-needed-requires Inv-loop μ-loop
 add-needed-requires c κs = tt
@@ -78,11 +78,11 @@ terms-length-spec =
     Inv-loop
     μ-loop
     loop-holds
-    mul-term-length
-    shared-slice-copy-out-term-length
+    mul-listed-length
+    shared-slice-copy-out-listed-length
     mul-t11
     shared-slice-read-t13
-    term-length-requires
+    listed-length-requires
     add-needed-requires
     add-i
     loop-less
