@@ -1,16 +1,15 @@
 -- One entry of a table: which line it is, by its kind and its columns, and the size of that line.
 use mathlib.Core.Path.{_≡_, refl, sym, ap, _∙_}
 use mathlib.Core.Bool.{Bool, true, false, cond}
-use mathlib.Core.List.{List, [], _∷_}
-use Prim.Native.Nat.{ℕ, _+_, _≤_, _<_, _^_}
+use mathlib.Core.List.{List, []}
+use Prim.Native.Nat.{ℕ, _+_, _≤_, _<_}
 use native.Mathlib.Omega.{arith}
 use native.Mathlib.Decide.{decLe}
 use lib.IntN.{ℤ}
-use lib.ListN.{length, length-append}
+use lib.ListN.{length}
 use Rattle.definitions.specs.Lists.{joined}
 use Rattle.definitions.specs.Refusal.{Checked, refuse, accept, needed}
-use Rattle.definitions.specs.Bytes.{lf}
-use Rattle.definitions.specs.Number.{decimal, integerText}
+use Rattle.definitions.specs.Number.{integerText}
 use Rattle.definitions.specs.Row.{Line, comment, row, rowOf}
 use Rattle.definitions.specs.Table.{Table, table, Entry, termsOn, inColumn, indexed, sortOf, andThen, lineIn}
 use Rattle.definitions.specs.Write.{numbered}

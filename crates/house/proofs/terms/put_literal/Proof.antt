@@ -1,8 +1,8 @@
 -- `put_literal` meets its contract: a tab, `~` where it stands, `x`, and the digits of the file number.
 use native.Mathlib.Omega.{arith}
-use mathlib.Core.Path.{_≡_, refl, ap, _∙_}
-use mathlib.Core.Bool.{Bool, true, false}
-use Prim.Native.Nat.{ℕ, _+_, _≤_}
+use mathlib.Core.Path.{refl, ap, _∙_}
+use mathlib.Core.Bool.{Bool}
+use Prim.Native.Nat.{_+_, _≤_}
 use lib.ListN.{length, length-set}
 use denote.Ref.{now}
 use Rattle.definitions.specs.Number.{decimal}

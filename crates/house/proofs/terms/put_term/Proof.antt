@@ -1,6 +1,6 @@
 -- `put_term` meets its contract: the variable has a file number, and the fields are put with it.
 use native.Mathlib.Omega.{arith}
-use mathlib.Core.Path.{_≡_, sym, ap, _∙_}
+use mathlib.Core.Path.{_≡_, ap, _∙_}
 use Prim.Native.Nat.{_+_, _≤_}
 use lib.ListN.{length}
 use mir.Facts.{toZ-ofZ}

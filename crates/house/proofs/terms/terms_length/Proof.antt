@@ -1,7 +1,7 @@
 -- `terms_length` meets its contract: each turn adds the length of one term that has a file number (`TermsAt`, proofs/Fields.antt).
 use native.Mathlib.Omega.{arith}
-use mathlib.Core.Path.{_≡_, refl, sym, ap, _∙_}
-use Prim.Native.Nat.{ℕ, _-_}
+use mathlib.Core.Path.{_≡_, refl, ap}
+use Prim.Native.Nat.{_-_}
 use lib.ListN.{length, getD}
 use lib.IntN.{pos}
 use borrow.Author.Needs.{needs, sfits-of}
