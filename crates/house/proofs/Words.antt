@@ -40,6 +40,9 @@ pub comment-words : (first f n : ℕ) (b : ℤ) → houseLine first (comment f n
 unfolding houseLine
 comment-words first f n b = refl
 
+pub comment-length : (n : ℕ) → length (commentLine n) ≡ length (decimal n) + 3
+comment-length n = omega (arith, length-append (field (decimal n)) (lf ∷ []))
+
 module _ (first : ℕ) (k : Kind) (b : ℤ) (ts : List Term) where
   pub line-words : houseLine first (row (rowOf k b ts)) ≡ wordField k ++ (integerText b ++ (joined (termFields first) ts ++ (lf ∷ [])))
   unfolding houseLine

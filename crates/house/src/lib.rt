@@ -7,7 +7,14 @@ mod output;
 mod terms;
 
 use measure::Measured;
+pub use measure::line_length;
+pub use measure::text_length;
 use numbers::Put;
+pub use terms::TermLength;
+pub use terms::add_needed;
+pub use terms::term_length;
+ghost use mathlib.Core.Path.{_≡_};
+ghost use lib.ListN.{length};
 ghost use Rattle.definitions.specs.Refusal.{refusal};
 ghost use Rattle.definitions.specs.Table.{table};
 ghost use Rattle.definitions.specs.House.{refusedLine};
@@ -20,7 +27,7 @@ pub enum Listed {
     Listed(usize),
 }
 
-// The lines of the first `rows` rows. "Row 11", then 14 with the length needed.
+// The lines of the first `rows` rows. Row by row 11, then 5; then 14 with the length needed.
 pub fn list_table(
     kinds: &[u8],
     firsts: &[usize],
@@ -44,12 +51,12 @@ pub fn list_table(
         rows,
         first,
     ) {
-        Measured::Refused(row) => Listed::Refused {
-            number: 11,
+        Measured::Refused { number, row } => Listed::Refused {
+            number,
             place: row as u64,
         },
         Measured::Lines(n, size) => {
-            let length = measure::whole_length(n, size, first);
+            let length = measure::text_length(n, size.terms, size.length, first);
             if length > out.len() as u64 {
                 return Listed::Refused {
                     number: 14,
@@ -73,13 +80,18 @@ pub fn list_table(
     }
 }
 
+// The length of the line of a refusal: `refused`, two tabs, number, place and an LF.
+pub fn refusal_length(number: u8, place: u64) -> usize
+    ensures { λ r. ⌜ r ≡ length (refusedLine (refusal number place)) ⌝ }
+{
+    10 + numbers::count_length(number as u64) + numbers::count_length(place)
+}
+
 // "A refusal prints `refused|number|place` alone."
 pub fn list_refusal(number: u8, place: u64, out: &mut [u8]) -> Put
     ensures { λ r. ⌜ Prints (refusedLine (refusal number place)) 0 (now (out .entry)) r (now (out .exit)) ⌝ }
 {
-    // `refused`, two tabs and an LF
-    let length = 10 + numbers::count_length(number as u64) + numbers::count_length(place);
-    if length > out.len() {
+    if refusal_length(number, place) > out.len() {
         return Put::Full;
     }
     Put::Done(lines::put_refusal(number, place, out))

@@ -9,12 +9,12 @@ use lib.Dec.{leb}
 use lib.ListN.{length, take}
 use Rattle.definitions.specs.Refusal.{refusal, needed, accept}
 use Rattle.definitions.specs.Row.{Line}
-use Rattle.definitions.specs.Table.{Table, Outcome, refused, accepted, entries, filled, Totals, totalsOf, allTerms, counted, after, rowByRow, lineIn}
+use Rattle.definitions.specs.Table.{Table, Outcome, refused, accepted, entries, filled, Totals, totalsOf, allTerms, counted, after, rowByRow}
 use Rattle.definitions.specs.File.{firstAt, file, reading}
 use Rattle.definitions.specs.Write.{fittedText, outputAfter, lengthOf}
-use Rattle.definitions.specs.House.{refusedLine, listing, listingTable}
-use Rattle.definitions.proofs.Tables.{filled-back}
-use Rattle.definitions.proofs.ReadRows.{statements-good, good-indexed}
+use Rattle.definitions.specs.House.{refusedLine, listing, listedEntry, listingTable}
+use Rattle.definitions.proofs.Tables.{filled-listed}
+use Rattle.definitions.proofs.ReadRows.{statements-good, good-indexed, good-numbered}
 use Rattle.definitions.proofs.FileAnswers.{file-accepted}
 use Rattle.definitions.proofs.Columns.{fitted-accepted}
 use Rattle.definitions.proofs.Puts.{put-at-fits, put-in-fits, put-at-full, put-in-full}
@@ -82,13 +82,14 @@ module _ (text o o′ : List ℕ) where
           record { answer = sym (put-at-full text 0 o h); after = q ∙ rw e (sym (put-in-full text 0 o h)) }
 
 module _ (first : ℕ) (s : List ℕ) (t : Table) where
-  -- ---- "a table that was read" is again the rows that were read
-  table-back : (ls : List Line) → reading (firstAt first) s t ≡ accepted ls → rowByRow (lineIn (filled ls t)) 0 (take (length ls) (entries (filled ls t))) ≡ accepted ls
+  -- ---- "a table that was read" is again the rows that were read, and each has its file numbers: no 11, no 5
+  table-back : (ls : List Line) → reading (firstAt first) s t ≡ accepted ls → rowByRow (listedEntry first (filled ls t)) 0 (take (length ls) (entries (filled ls t))) ≡ accepted ls
   unfolding reading
   table-back ls e =
       let f = fitted-accepted t (file (firstAt first) s) ls e in
       let g = file-accepted (firstAt first) s ls (f .accepts) in
-      filled-back ls t (f .terms) (good-indexed ls (statements-good (firstAt first) s ls (g .end) (g .found)))
+      let good = statements-good (firstAt first) s ls (g .end) (g .found) in
+      filled-listed first ls t (f .terms) (good-indexed first ls good) (good-numbered first ls good)
 
   module _ (o o′ : List ℕ) (t′ : Table) (a : Answer) (reads : Reads (firstAt first) s t a t′) where
     pub refused-lists : (n p : ℕ) (r : Put) → a ≡ answer.Refused n p → Prints (refusedLine (refusal n p)) 0 o r o′ → ListsFile first s t o r t′ o′

@@ -8,9 +8,7 @@ use lib.Dec.{leb}
 use lib.ListN.{length}
 use mir.Facts.{toZ-ofZ}
 use denote.Ref.{now}
-use Rattle.definitions.specs.Number.{decimal}
 use Rattle.definitions.specs.Table.{Entry}
-use Rattle.definitions.proofs.Puts.{count-length-most}
 use Rattle.house.specs.Sizes.{sizeIn}
 use Rattle.house.proofs.Entries.{comment-sized, unread-entry, outside-entry, inside-entry}
 use borrow.Author.Needs.{needs}
@@ -19,9 +17,6 @@ use Rattle.house.proofs.measure.measure_row.Tie as tie
 
 abbrev entry : tie.Start → Entry
 entry s = record { kind = s .args .kind; first = s .args .start; count = s .args .count; bound = s .args .bound }
-
-counted : (c : tie.After-count-length) → c .count-length .result ≡ length (decimal (c .before .before .before .args .count))
-counted c = c .count-length .ensures
 
 in-column-is : (c : tie.After-in-column) → c .in-column .result ≡ leb (c .before .before .before .before .before .args .start + c .before .before .before .before .before .args .count) (min (length (now (c .before .before .before .before .before .args .weights))) (length (now (c .before .before .before .before .before .args .literals))))
 in-column-is c = c .in-column .ensures ∙ rw (c .before .term-room .ensures)
@@ -36,17 +31,14 @@ module _ (c : tie.Else3) where
   within : start .args .start + start .args .count ≤ min (length (now (start .args .weights))) (length (now (start .args .literals)))
   within = leb-true _ _ inside
 
-count-length-requires : tie.Need-count-length-requires
-count-length-requires c κs = search needs
-
-add-length : tie.Need-add-length
-add-length c = omega (arith, counted c, count-length-most (c .before .before .before .args .count) (c .before .before .before .fits .count .fits))
+comment-length-requires : tie.Need-comment-length-requires
+comment-length-requires c κs = search needs
 
 returns : tie.Need-returns
-returns c = comment-sized _ _ _ (entry (c .before .before .before)) _ (c .before .if1 .taken) (c .before .before .before .fits .count .fits) (omega (arith, counted c))
+returns c = comment-sized _ _ _ (entry (c .before .before .before)) _ (c .before .if1 .taken) (c .comment-length .ensures)
 
 returns-2 : tie.Need-returns-2
-returns-2 c = ap (sizeIn _) (sym (unread-entry _ _ (entry (c .before .before .before)) (c .if2 .taken)))
+returns-2 c = ap (sizeIn _) (sym (unread-entry _ _ _ (entry (c .before .before .before)) (c .if2 .taken)))
 
 term-room-requires : tie.Need-term-room-requires
 term-room-requires c κs = search needs
@@ -58,7 +50,7 @@ returns-3 : tie.Need-returns-3
 returns-3 c =
     let d = c .before .before .before in
     let s = d .before .before .before in
-    ap (sizeIn _) (sym (outside-entry _ _ (entry s) (d .before .if1 .left) (d .if2 .left) (sym (in-column-is (c .before)) ∙ not-true (c .before .in-column .result) (c .if3 .taken))))
+    ap (sizeIn _) (sym (outside-entry _ _ _ (entry s) (d .before .if1 .left) (d .if2 .left) (sym (in-column-is (c .before)) ∙ not-true (c .before .in-column .result) (c .if3 .taken))))
 
 add-end : tie.Need-add-end
 add-end c = omega (arith, within c, start c .good)
@@ -97,14 +89,13 @@ returns-4 c =
     let n : s .args .start + s .args .count - s .args .start ≡ s .args .count = omega arith in
     c .measure-line .ensures
     ∙ rw (toZ-ofZ (s .fits .bound), n)
-    (ap (sizeIn _) (sym (inside-entry _ _ (entry s) (d .before .before .before .before .if1 .left) (d .before .before .before .if2 .left) (inside d))))
+    (ap (sizeIn _) (sym (inside-entry _ _ _ (entry s) (d .before .before .before .before .if1 .left) (d .before .before .before .if2 .left) (inside d))))
 
 pub measure-row-spec : {M : Type 1} → statement M
 measure-row-spec =
     tie.close
     (tie.spec
-    count-length-requires
-    add-length
+    comment-length-requires
     returns
     returns-2
     term-room-requires

@@ -1,81 +1,62 @@
--- `term_length` meets its contract: the digits of weight and number, a sign, the two tabs, `x`, and `~` where it stands.
-use native.Mathlib.Omega.{arith}
-use mathlib.Core.Path.{_≡_, sym, ap, _∙_}
-use Prim.Native.Nat.{ℕ, _+_, _≤_}
-use lib.ListN.{length}
-use lib.IntN.{ℤ}
+-- `term_length` meets its contract: the variable has a file number, and the fields are counted with it, or it has none.
+use mathlib.Core.Path.{_≡_, ap, _∙_}
 use mir.Facts.{toZ-ofZ}
-use Rattle.definitions.specs.Literal.{indexOf}
-use Rattle.definitions.specs.Number.{decimal, integerText}
-use Rattle.definitions.proofs.Puts.{count-length-most, number-length-most}
-use Rattle.house.proofs.Fields.{negated-term-length, plain-term-length}
+use Rattle.definitions.specs.Literal.{indexOf, fileNumber}
+use Rattle.symbols.specs.Said.{saidFileNumber}
+use Rattle.house.proofs.Fields.{number-is, no-number, length-numbered, length-unnumbered}
 use borrow.Author.Needs.{needs}
 use Rattle.house.proofs.terms.term_length.Statement.{statement}
 use Rattle.house.proofs.terms.term_length.Tie as tie
 
-module _ (c : tie.After-count-length) where
+module _ (c : tie.After-of) where
   abbrev start : tie.Start
-  start = c .before .before .before .before
+  start = c .before .before
 
-  weight-length : (c .before .number-length .result ≡ length (integerText (start .args .w))) × (length (integerText (start .args .w)) ≤ 20)
-  weight-length =
-      (c .before .number-length .ensures ∙ ap (λ (z : ℤ). length (integerText z)) (toZ-ofZ (start .fits .w)), number-length-most (start .args .w) (start .fits .w))
-
-  number-is : c .before .before .number-of .result ≡ indexOf (start .args .l .0) + start .args .first
-  number-is = c .before .before .number-of .ensures ∙ ap (λ (v : ℕ). v + start .args .first) (c .before .before .before .var .ensures)
-
-  number-length : (c .count-length .result ≡ length (decimal (indexOf (start .args .l .0) + start .args .first))) × (c .count-length .result ≤ 20)
-  number-length =
-      let e = c .count-length .ensures ∙ ap (λ (n : ℕ). length (decimal n)) number-is in
-      (e, omega (arith, e, count-length-most (indexOf (start .args .l .0) + start .args .first) (omega (arith, start .good))))
+  said : saidFileNumber (c .of .result) ≡ fileNumber (start .args .first) (indexOf (start .args .l .0))
+  said = c .of .ensures ∙ ap (fileNumber (start .args .first)) (c .before .var .ensures)
 
 var-requires : tie.Need-var-requires
 var-requires c κs = search needs
 
-number-of-requires : tie.Need-number-of-requires
-number-of-requires c κs = search needs
+of-requires : tie.Need-of-requires
+of-requires c κs = search needs
 
-number-length-requires : tie.Need-number-length-requires
-number-length-requires c κs = search needs
-
-count-length-requires : tie.Need-count-length-requires
-count-length-requires c κs = search needs
-
-add-digits : tie.Need-add-digits
-add-digits c = omega (arith, weight-length c, number-length c)
+enum-known-n : tie.Need-enum-known-n
+enum-known-n c = search needs
 
 is-neg-requires : tie.Need-is-neg-requires
 is-neg-requires c κs = search needs
 
-add-result : tie.Need-add-result
-add-result c = let d = c .before .before in omega (arith, weight-length d, number-length d)
+fields-length-requires : tie.Need-fields-length-requires
+fields-length-requires c κs = search needs
 
-add-result-2 : tie.Need-add-result-2
-add-result-2 c = let d = c .before .before in omega (arith, weight-length d, number-length d)
+enum-told : tie.Need-enum-told
+enum-told c = search needs
 
 returns : tie.Need-returns
 returns c =
-    let d = c .before .before in
+    let n = c .before .before .before in
+    let d = n .before .before in
     let s = start d in
-    omega (arith, weight-length d, number-length d, negated-term-length (s .args .first) (s .args .w) (s .args .l .0) (sym (c .before .is-neg .ensures) ∙ c .if1 .taken))
+    let g = number-is _ _ _ (said d) _ (n .n .given .1) in
+    length-numbered (s .args .first) (s .args .w) (s .args .l .0) _ _ (g .0) (g .1)
+    (rw (toZ-ofZ (s .fits .w), c .before .is-neg .ensures) at (c .fields-length .ensures))
 
 returns-2 : tie.Need-returns-2
 returns-2 c =
     let d = c .before .before in
     let s = start d in
-    omega (arith, weight-length d, number-length d, plain-term-length (s .args .first) (s .args .w) (s .args .l .0) (sym (c .before .is-neg .ensures) ∙ c .if1 .left))
+    length-unnumbered (s .args .first) (s .args .w) (s .args .l .0) (no-number _ _ _ (said d) (c .enum-told .given .1))
 
 pub term-length-spec : {M : Type 1} → statement M
 term-length-spec =
     tie.close
     (tie.spec
     var-requires
-    number-of-requires
-    number-length-requires
-    count-length-requires
-    add-digits
+    of-requires
+    enum-known-n
     is-neg-requires
-    add-result
-    add-result-2
+    fields-length-requires
+    enum-told
     returns
     returns-2)

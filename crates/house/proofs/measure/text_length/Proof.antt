@@ -1,4 +1,4 @@
--- `whole_length` meets its contract: the length of the head is added.
+-- `text_length` meets its contract: the length of the head is added.
 use native.Mathlib.Omega.{arith}
 use mathlib.Core.Path.{_≡_, ap, _∙_}
 use Prim.Native.Nat.{ℕ, _+_, _^_, _≤_, _<_}
@@ -8,8 +8,8 @@ use Rattle.definitions.specs.Number.{decimal}
 use Rattle.definitions.proofs.Puts.{count-length-most}
 use Rattle.house.proofs.Words.{head-length}
 use borrow.Author.Needs.{needs}
-use Rattle.house.proofs.measure.whole_length.Statement.{statement}
-use Rattle.house.proofs.measure.whole_length.Tie as tie
+use Rattle.house.proofs.measure.text_length.Statement.{statement}
+use Rattle.house.proofs.measure.text_length.Tie as tie
 
 counted : (n r : ℕ) → n < 2 ^ 64 → r ≡ length (decimal n) → (r ≡ length (decimal n)) × (r ≤ 20)
 counted n r h e = (e, omega (arith, e, count-length-most n h))
@@ -21,7 +21,7 @@ module _ (c : tie.After-count-length2) where
   rows-length : (c .before .count-length .result ≡ length (decimal (start .args .rows))) × (c .before .count-length .result ≤ 20)
   rows-length = counted _ _ (start .fits .rows .fits) (c .before .count-length .ensures)
 
-  terms-length : (c .count-length2 .result ≡ length (decimal (start .args .all .terms))) × (c .count-length2 .result ≤ 20)
+  terms-length : (c .count-length2 .result ≡ length (decimal (start .args .terms))) × (c .count-length2 .result ≤ 20)
   terms-length = counted _ _ (omega (arith, start .good)) (c .count-length2 .ensures)
 
 first-length : (c : tie.After-count-length3) → (c .count-length3 .result ≡ length (decimal (start (c .before) .args .first))) × (c .count-length3 .result ≤ 20)
@@ -53,11 +53,11 @@ returns c =
     let d = c .before in
     let s = d .before .before .before in
     c .add-needed .ensures
-    ∙ ap (λ (n : ℕ). needed (s .args .all .length + n))
-    (omega (arith, rows-length (d .before), terms-length (d .before), first-length d, head-length (s .args .rows) (s .args .all .terms) (s .args .first)))
+    ∙ ap (λ (n : ℕ). needed (s .args .lines + n))
+    (omega (arith, rows-length (d .before), terms-length (d .before), first-length d, head-length (s .args .rows) (s .args .terms) (s .args .first)))
 
-pub whole-length-spec : {M : Type 1} → statement M
-whole-length-spec =
+pub text-length-spec : {M : Type 1} → statement M
+text-length-spec =
     tie.close
     (tie.spec
     count-length-requires
