@@ -91,9 +91,16 @@ module _ {o : Options} {s : List ℕ} {count₀ size₀ : ℕ} {w₀ : List ℤ}
         ap natAbs (toZ-pos w64 (omega (arith, is .fits .size))) ∙ sym (signed-size (p .negative) (p .size)) in
         rw (e, a) (further (plainTerm (o .first) p) n r (is .step) put)
 
--- an answer that is a plain term, on a part of the text
-pub plain-there : {o : Options} (s : List ℕ) (at : ℕ) {r : PlainRead} {p : PlainTerm} {n : ℕ} → PlainSays o (take (length s - at) (drop at s)) r → r ≡ read.Plain p n → PlainIs o (drop at s) p n
-plain-there s at h e = rw (e, part-is s at) at h
+-- the rest of a text from an offset on: an answer that is a plain term there, and what is left behind it
+module _ (s : List ℕ) (at n : ℕ) {rest : List ℕ} (is : rest ≡ drop at s) where
+  pub plain-there : {o : Options} {r : PlainRead} {p : PlainTerm} → PlainSays o rest r → r ≡ read.Plain p n → PlainIs o (drop at s) p n
+  plain-there h e = rw (e, is) at h
+
+  pub rest-behind : take (length rest - n) (drop n rest) ≡ drop (at + n) s
+  rest-behind = part-is rest n ∙ rw is (drop-drop n at s)
+
+  pub rest-holds : at + n ≤ length s → n ≤ length rest
+  rest-holds h = rw (is, length-drop at s) (omega arith)
 
 -- ---- a walk over a sum that goes on by a run
 module _ {o : Options} {s : List ℕ} {w₀ : List ℤ} {l₀ : List ℕ} {at₀ count₀ size₀ : ℕ} {w₁ : List ℤ} {l₁ : List ℕ} (i : Walking o s w₀ l₀ at₀ count₀ size₀ w₁ l₁) where

@@ -67,8 +67,9 @@ pub(crate) fn walk_plain(
     let mut terms: usize = from;
     let mut size: u64 = before;
     let mut at: usize = 0;
+    let mut rest = s;
     loop {
-        let PlainRead::Plain { term, taken } = crate::plain::plain_term(&s[at..], options) else {
+        let PlainRead::Plain { term, taken } = crate::plain::plain_term(rest, options) else {
             return PlainRun {
                 terms,
                 size,
@@ -79,5 +80,6 @@ pub(crate) fn walk_plain(
         size = columns::add_size(size, term.size as i64);
         terms += 1;
         at += taken;
+        rest = &rest[taken..];
     }
 }
