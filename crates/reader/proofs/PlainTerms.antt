@@ -1,15 +1,15 @@
--- Is a term in its plain form what `termStep` reads? A weight and a literal, each with one space behind it and no blank behind that. And the bytes that the words of a text hold.
-use Prim.Native.Nat.{ℕ, suc, _+_, _-_, _/_, _≤_, _<_}
-use mathlib.Core.Path.{_≡_, refl, sym, ap, _∙_}
+-- Is a term in its plain form what `termStep` reads? A weight and a literal, each with one space behind it and no blank behind that.
+use Prim.Native.Nat.{ℕ, suc, _+_, _-_, _≤_, _<_}
+use mathlib.Core.Path.{_≡_, refl, ap, _∙_}
 use mathlib.Core.Bool.{Bool, true, false}
 use mathlib.Core.Logic.{⊎-elim}
-use mathlib.Core.List.{List, [], _∷_, _++_}
+use mathlib.Core.List.{List, [], _∷_}
 use native.Mathlib.Omega.{arith}
 use native.Mathlib.Numerals.{add-one}
 use borrow.Author.Tests.{eqb-true, ne-eqb, ltb-true}
 use lib.Dec.{eqb}
-use lib.ListN.{length, take, drop, getD, length-drop}
-use lib.Seq.{length-take-le, drop-cons, drop-at, drop-drop, take-take, take-add, getD-drop}
+use lib.ListN.{length, take, drop, getD}
+use lib.Seq.{drop-cons, drop-drop, getD-drop}
 use lib.IntN.{ℤ}
 use Rattle.definitions.specs.Bytes.{isBlank, blanks, space, tab, plus, minus}
 use Rattle.definitions.specs.Reader.{none, got, more, chain, done}
@@ -22,9 +22,10 @@ use Rattle.definitions.proofs.Texts.{either}
 use Rattle.definitions.proofs.Truths.{both}
 use Rattle.definitions.proofs.Chains.{chain-got}
 use Rattle.definitions.proofs.Numbers.{ended-none}
+use Rattle.definitions.proofs.Parts.{part-is}
 use Rattle.definitions.proofs.Readback.{digit-begins, one-space}
-use Rattle.reader.specs.Lanes.{lanes, laneValue, AtLane, behind}
-use Rattle.reader.specs.Plain.{ShapeIs, Fronted, WeightIs, LiteralIs, PlainIs, spaced}
+use Rattle.reader.specs.Lanes.{laneValue}
+use Rattle.reader.specs.Plain.{WeightIs, LiteralIs, PlainIs, spaced}
 use Rattle.reader.specs.declared.plain.PlainTerm.{PlainTerm}
 
 -- ---- what stands at the front
@@ -90,63 +91,16 @@ module _ (o : Options) (s : List ℕ) (k j : ℕ) (w : ℤ) (c : ℕ) where
       let there = after-weight (single-blank s k h p (literal-no-blank o _ c j l)) l (single-blank s (k + 1 + j) i q after) in
       rw (number-begins-term s w k e, termStep) (ap asStep (chain-got number _ s w k e ∙ ap (more k) there) ∙ ap (item (term w c)) (omega arith))
 
--- ---- the words of a text
-drop-take : (n m : ℕ) (s : List ℕ) → n ≤ length s → drop n (take (n + m) s) ≡ take m (drop n s)
-drop-take n m s h = ap (drop n) (take-add n m s) ∙ drop-at (take n s) (take m (drop n s)) n (length-take-le n s h)
-
--- of sixteen bytes, the eight behind the first n
-eight-behind : (n : ℕ) (s : List ℕ) → n ≤ 8 → n ≤ length s → take 8 (drop n (take 8 (drop 0 s) ++ take 8 (drop 8 s))) ≡ take 8 (drop n s)
-eight-behind n s h l =
-    let e : 8 + 8 ≡ n + (16 - n) = omega arith in
-    ap (λ (x : List ℕ). take 8 (drop n x)) (sym (take-add 8 8 s) ∙ ap (λ (m : ℕ). take m s) e)
-    ∙ ap (take 8) (drop-take n (16 - n) s l) ∙ take-take 8 (16 - n) (drop n s) (omega arith)
-
-pub shape-is : (s : List ℕ) (word g other next e : ℕ) → 24 ≤ length s → AtLane 1 6 g → AtLane 2 7 e → lanes 8 word ≡ take 8 (drop 0 s) → lanes 8 other ≡ take 8 (drop 8 s)
-    → lanes 8 next ≡ behind g word other → ShapeIs s word g next e
-shape-is s word g other next e h a b p q r =
-    let at : g / 8 + 1 ≡ a .place + 1 = omega (arith, a .is) in
+-- a plain term: the weight and, behind its space, the literal are read, and the bytes around them are as they should be
+pub plain-is : (o : Options) (s : List ℕ) (p : PlainTerm) {digits gap long : ℕ} → 17 ≤ length s → WeightIs s (p .negative) digits gap → p .size ≡ laneValue digits
+    → LiteralIs (take (length s - (gap + 1)) (drop (gap + 1) s)) (p .negated) (p .variable) long → spaced s gap (gap + long + 2) ≡ true → o .first ≤ laneValue (p .variable)
+    → PlainIs o s p (gap + long + 2)
+plain-is o s p {digits} {gap} {long} h weight size lit t l =
+    let bytes = spaced-bytes s gap (gap + long + 2) t in
+    let behind : gap + long + 2 - 1 ≡ gap + 1 + long = omega arith in
     record {
-      long = h;
-      gapped = a;
-      ended = b;
-      first = p;
-      second = r ∙ rw (p, q, at) (eight-behind (a .place + 1) s (omega (arith, a .most)) (omega (arith, a .most)));
+      step =
+          term-there o s gap long _ _ (omega (arith, weight .short)) (rw size (weight .reads)) (bytes .0)
+          (rw (part-is s (gap + 1)) at (lit .reads o l)) (omega (arith, weight .short, lit .short)) (rw behind at (bytes .1)) _ (omega arith) (bytes .2);
+      fits = record { size = rw size (weight .small); least = l; most = lit .small };
     }
-
-module _ {s : List ℕ} {word g next e : ℕ} (shape : ShapeIs s word g next e) where
-  -- the weight's word, with a space at the gap
-  weight-fronted : getD s (g / 8) 0 ≡ space → Fronted word (shape .gapped .place) s
-  weight-fronted p =
-      let at : shape .gapped .place ≡ g / 8 = omega (arith, shape .gapped .is) in
-      record { long = omega (arith, shape .long); bytes = shape .first; spaced = rw at p }
-
-  -- the literal's, with a space at the end
-  literal-fronted : getD s ((g + 8 + e) / 8 - 1) 0 ≡ space → Fronted next (shape .ended .place) (drop (shape .gapped .place + 1) s)
-  literal-fronted p =
-      let at : shape .gapped .place + 1 + shape .ended .place ≡ (g + 8 + e) / 8 - 1 = omega (arith, shape .gapped .is, shape .ended .is) in
-      record {
-        long = omega (arith, length-drop (shape .gapped .place + 1) s, shape .long, shape .gapped .most);
-        bytes = shape .second;
-        spaced = rw (getD-drop (shape .gapped .place + 1) s (shape .ended .place) 0, at) p;
-      }
-
-  -- a plain term: the bytes around its weight and its literal are as they should be
-  pub plain-is : (o : Options) (p : PlainTerm) → spaced s (g / 8) ((g + 8 + e) / 8) ≡ true
-      → WeightIs word (shape .gapped .place) (p .negative) (p .size) → LiteralIs next (shape .ended .place) (p .negated) (p .variable) → o .first ≤ laneValue (p .variable)
-      → PlainIs o s p ((g + 8 + e) / 8)
-  plain-is o p t weight lit h =
-      let bytes = spaced-bytes s (g / 8) ((g + 8 + e) / 8) t in
-      let a = bytes .0 in
-      let b = bytes .1 in
-      let d = bytes .2 in
-      let k = shape .gapped .place in
-      let j = shape .ended .place in
-      let here : g / 8 ≡ k = omega (arith, shape .gapped .is) in
-      let there : (g + 8 + e) / 8 - 1 ≡ k + 1 + j = omega (arith, shape .gapped .is, shape .ended .is) in
-      record {
-        step =
-            term-there o s k j _ _ (omega (arith, shape .long, shape .gapped .most)) (weight .reads s (weight-fronted a)) (rw here at a)
-            (lit .reads o _ h (literal-fronted b)) (omega (arith, shape .long, shape .gapped .most, shape .ended .most)) (rw there at b) _
-            (omega (arith, shape .gapped .is, shape .ended .is)) d;
-        fits = record { size = weight .small; least = h; most = lit .small };
-      }

@@ -1,5 +1,5 @@
 -- Laws of a run of plain terms (specs/Run.antt): a term's weight and code as the code computes them, what a run keeps, one plain term more, and a walk over a sum that goes on by a run.
-use Prim.Native.Nat.{ℕ, zero, suc, _+_, _-_, _*_, _≤_, _<_, _^_}
+use Prim.Native.Nat.{ℕ, zero, suc, _+_, _-_, _≤_, _<_, _^_}
 use mathlib.Core.Path.{_≡_, refl, sym, ap, _∙_}
 use mathlib.Core.Bool.{Bool, true, false}
 use mathlib.Core.List.{List}
@@ -11,15 +11,18 @@ use mir.Syntax.{w64}
 use mir.Val.{SFits, toZ, ofZ}
 use mir.Facts.{toZ-ofZ, toZ-pos}
 use Rattle.definitions.specs.Number.{signed}
-use Rattle.definitions.specs.Literal.{codeOf}
+use Rattle.definitions.specs.Refusal.{Checked, refuse, accept}
+use Rattle.definitions.specs.Literal.{index, codeFor}
 use Rattle.definitions.specs.Text.{termStep}
 use Rattle.definitions.specs.declared.Options.{Options}
 use Rattle.definitions.proofs.Parts.{part-is}
 use Rattle.definitions.proofs.Statements.{term-moves}
 use Rattle.columns.specs.Sizes.{capped}
+use Rattle.symbols.proofs.Conversions.{accepted, no-refusal, index-within, literal-within}
 use Rattle.numbers.proofs.Signed.{neg-sfits, neg-is}
 use Rattle.reader.specs.Fill.{TermPut}
-use Rattle.reader.specs.Plain.{plainTerm, PlainIs, PlainSays}
+use Rattle.reader.specs.Lanes.{laneValue}
+use Rattle.reader.specs.Plain.{plainTerm, PlainFits, PlainIs, PlainSays}
 use Rattle.reader.specs.Run.{Ran, begun, further, RunSays}
 use Rattle.reader.specs.declared.plain.PlainTerm.{PlainTerm}
 use Rattle.reader.specs.declared.plain.PlainRead.{PlainRead}
@@ -43,13 +46,18 @@ module _ (n : ℕ) (h : n < 100_000_000) where
   pub weight-plain : {b : Bool} {x : ℕ} → b ≡ false → x ≡ n → toZ w64 x ≡ signed b n
   weight-plain t e = rw (t, e) (toZ-pos w64 (omega arith))
 
--- ---- a literal's code from its file number and the first index
-module _ (first : ℕ) {b : Bool} {x number v : ℕ} (is : number ≡ v) where
-  pub code-negated : b ≡ true → x ≡ 2 * (number - first) + 1 → x ≡ codeOf b (v - first)
-  code-negated t e = rw (t, ← is) e
+-- ---- a literal's code by its file number and its index, neither out of range
+module _ {first v : ℕ} {p : PlainTerm} (h : PlainFits first p) (is : v ≡ laneValue (p .variable)) where
+  indexed : accept (laneValue (p .variable) - first) ≡ index first v
+  indexed = rw is (index-within first (laneValue (p .variable)) (omega (arith, h .most)) (h .least) (omega (arith, h .most)))
 
-  pub code-plain : b ≡ false → x ≡ 2 * (number - first) → x ≡ codeOf b (v - first)
-  code-plain t e = rw (t, ← is) e
+  pub plain-indexed : refuse 5 ≡ index first v → ⊥
+  plain-indexed e = no-refusal _ 5 (indexed ∙ sym e)
+
+  pub plain-coded : {i : ℕ} {x : Checked ℕ} → accept i ≡ index first v → x ≡ codeFor (p .negated) i → x ≡ accept (plainTerm first p .code)
+  plain-coded {i} e c =
+      let q : i ≡ laneValue (p .variable) - first = accepted i _ (e ∙ sym indexed) in
+      c ∙ rw q (sym (literal-within (p .negated) (laneValue (p .variable) - first) (omega (arith, h .most))))
 
 -- ---- what a run keeps: it ends within the text, has no more terms than bytes, and no column is longer or shorter than it was
 pub record Kept (s : List ℕ) (count₀ : ℕ) (w₀ : List ℤ) (l₀ : List ℕ) (at count : ℕ) (w : List ℤ) (l : List ℕ) : Type 0 where
@@ -83,9 +91,16 @@ module _ {o : Options} {s : List ℕ} {count₀ size₀ : ℕ} {w₀ : List ℤ}
         ap natAbs (toZ-pos w64 (omega (arith, is .fits .size))) ∙ sym (signed-size (p .negative) (p .size)) in
         rw (e, a) (further (plainTerm (o .first) p) n r (is .step) put)
 
--- an answer that is a plain term, on a part of the text
-pub plain-there : {o : Options} (s : List ℕ) (at : ℕ) {r : PlainRead} {p : PlainTerm} {n : ℕ} → PlainSays o (take (length s - at) (drop at s)) r → r ≡ read.Plain p n → PlainIs o (drop at s) p n
-plain-there s at h e = rw (e, part-is s at) at h
+-- the rest of a text from an offset on: an answer that is a plain term there, and what is left behind it
+module _ (s : List ℕ) (at n : ℕ) {rest : List ℕ} (is : rest ≡ drop at s) where
+  pub plain-there : {o : Options} {r : PlainRead} {p : PlainTerm} → PlainSays o rest r → r ≡ read.Plain p n → PlainIs o (drop at s) p n
+  plain-there h e = rw (e, is) at h
+
+  pub rest-behind : take (length rest - n) (drop n rest) ≡ drop (at + n) s
+  rest-behind = part-is rest n ∙ rw is (drop-drop n at s)
+
+  pub rest-holds : at + n ≤ length s → n ≤ length rest
+  rest-holds h = rw (is, length-drop at s) (omega arith)
 
 -- ---- a walk over a sum that goes on by a run
 module _ {o : Options} {s : List ℕ} {w₀ : List ℤ} {l₀ : List ℕ} {at₀ count₀ size₀ : ℕ} {w₁ : List ℤ} {l₁ : List ℕ} (i : Walking o s w₀ l₀ at₀ count₀ size₀ w₁ l₁) where

@@ -2,9 +2,9 @@
 use Prim.Native.Nat.{ℕ, zero, suc, _+_, _*_, _/_, _%_, _^_, _≤_, _<_}
 use mathlib.Core.Path.{_≡_}
 use mathlib.Core.Bool.{Bool, true, _&&_}
-use mathlib.Core.List.{List, [], _∷_, _++_, map}
+use mathlib.Core.List.{List, [], _∷_, map}
 use lib.Dec.{leb}
-use lib.ListN.{take, drop}
+use lib.ListN.{take}
 use Rattle.definitions.specs.Bytes.{isDigit}
 use Rattle.definitions.specs.Number.{value}
 use Rattle.reader.specs.declared.word.Digits.{Digits}
@@ -34,20 +34,9 @@ pub record InLanes (bits : ℕ) : Type 0 where
   pub least : 1 ≤ count
   pub most : count ≤ 7
 
--- the bit 4 of a lane, from the first to the last
-pub record AtLane (first last gap : ℕ) : Type 0 where
-  pub place : ℕ
-  pub is : gap ≡ 8 * place + 4
-  pub least : first ≤ place
-  pub most : place ≤ last
-
--- no bit, or one that is set in the marks
-abbrev pub marked : ℕ → ℕ → Type 0
-marked marks gap = gap < 64 → marks / 2 ^ gap % 2 ≡ 1
-
--- of two words, the eight bytes behind the lane that a bit is in
-abbrev pub behind : ℕ → ℕ → ℕ → List ℕ
-behind gap word next = take 8 (drop (gap / 8 + 1) (lanes 8 word ++ lanes 8 next))
+-- no bit, or one that is set in the marks and not in the word
+abbrev pub marked : ℕ → ℕ → ℕ → Type 0
+marked word marks gap = gap < 64 → (marks / 2 ^ gap % 2 ≡ 1) × (word / 2 ^ gap % 2 ≡ 0)
 
 -- bytes that are digits, and their number
 pub record DigitsAre (bytes : List ℕ) (y : ℕ) : Type 0 where

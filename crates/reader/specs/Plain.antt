@@ -1,10 +1,10 @@
 -- What is said of a term in its plain form. An answer that is no term says nothing: the pieces read that text.
-use Prim.Native.Nat.{ℕ, _+_, _-_, _≤_, _<_}
+use Prim.Native.Nat.{ℕ, _-_, _≤_, _<_}
 use mathlib.Core.Path.{_≡_}
 use mathlib.Core.Bool.{Bool, _&&_}
 use mathlib.Core.List.{List}
 use lib.Dec.{eqb, ltb}
-use lib.ListN.{length, take, drop, getD}
+use lib.ListN.{getD}
 use Rattle.definitions.specs.Bytes.{space}
 use Rattle.definitions.specs.Reader.{got}
 use Rattle.definitions.specs.Number.{number, signed}
@@ -13,52 +13,34 @@ use Rattle.definitions.specs.Walk.{item}
 use Rattle.definitions.specs.Row.{Term, term}
 use Rattle.definitions.specs.Text.{literal, termStep}
 use Rattle.definitions.specs.declared.Options.{Options}
-use Rattle.reader.specs.Lanes.{lanes, laneValue, AtLane}
+use Rattle.reader.specs.Lanes.{laneValue}
 use Rattle.reader.specs.declared.plain.PlainTerm.{PlainTerm}
 use Rattle.reader.specs.declared.plain.PlainRead.{PlainRead}
 use Rattle.reader.specs.declared.plain.PlainRead.the-variants as read
-use Rattle.reader.specs.declared.plain.Shape.{Shape}
-use Rattle.reader.specs.declared.plain.Shape.the-variants as shape
 use Rattle.reader.specs.declared.plain.PlainWeight.{PlainWeight}
 use Rattle.reader.specs.declared.plain.PlainWeight.the-variants as weight
 use Rattle.reader.specs.declared.plain.PlainLiteral.{PlainLiteral}
 use Rattle.reader.specs.declared.plain.PlainLiteral.the-variants as literals
 
--- ---- the words of a text and where its weight and its literal may end
-pub record ShapeIs (s : List ℕ) (weight gap literal end : ℕ) : Type 0 where
-  pub long : 24 ≤ length s
-  pub gapped : AtLane 1 6 gap
-  pub ended : AtLane 2 7 end
-  pub first : lanes 8 weight ≡ take 8 s
-  pub second : lanes 8 literal ≡ take 8 (drop (gapped .place + 1) s)
+-- ---- the weight at the front of a text: what `number` reads there, its digits in lanes
+pub record WeightIs (s : List ℕ) (negative : Bool) (digits taken : ℕ) : Type 0 where
+  pub reads : number s ≡ got (signed negative (laneValue digits)) taken
+  pub small : laneValue digits < 100_000_000
+  pub short : taken ≤ 7
 
-abbrev pub ShapeSays : List ℕ → Shape → Type 0
-ShapeSays s shape.Other = Unit {0}
-ShapeSays s (shape.Words weight gap literal end) = ShapeIs s weight gap literal end
+abbrev pub WeightSays : List ℕ → PlainWeight → Type 0
+WeightSays s weight.Other = Unit {0}
+WeightSays s (weight.Weight negative digits taken) = WeightIs s negative digits taken
 
--- a text that begins with the bytes of the word, and has a space at the place
-pub record Fronted (word place : ℕ) (s : List ℕ) : Type 0 where
-  pub long : 8 ≤ length s
-  pub bytes : lanes 8 word ≡ take 8 s
-  pub spaced : getD s place 0 ≡ space
-
--- the weight of such a text takes the bytes before the space
-pub record WeightIs (word place : ℕ) (negative : Bool) (size : ℕ) : Type 0 where
-  pub reads : (s : List ℕ) → Fronted word place s → number s ≡ got (signed negative size) place
-  pub small : size < 100_000_000
-
-abbrev pub WeightSays : ℕ → ℕ → PlainWeight → Type 0
-WeightSays word gap weight.Other = Unit {0}
-WeightSays word gap (weight.Weight negative size) = (at : AtLane 1 6 gap) → WeightIs word (at .place) negative size
-
--- and so does its literal, if the first index is not above its file number
-pub record LiteralIs (word place : ℕ) (negated : Bool) (variable : ℕ) : Type 0 where
-  pub reads : (o : Options) (s : List ℕ) → o .first ≤ laneValue variable → Fronted word place s → literal o s ≡ got (codeOf negated (laneValue variable - o .first)) place
+-- ---- the literal at the front: what `literal` reads there, if the first index is not above its file number
+pub record LiteralIs (s : List ℕ) (negated : Bool) (variable taken : ℕ) : Type 0 where
+  pub reads : (o : Options) → o .first ≤ laneValue variable → literal o s ≡ got (codeOf negated (laneValue variable - o .first)) taken
   pub small : laneValue variable < 100_000_000
+  pub short : taken ≤ 7
 
-abbrev pub LiteralSays : ℕ → ℕ → PlainLiteral → Type 0
-LiteralSays word end literals.Other = Unit {0}
-LiteralSays word end (literals.Literal negated variable) = (at : AtLane 2 7 end) → LiteralIs word (at .place) negated variable
+abbrev pub LiteralSays : List ℕ → PlainLiteral → Type 0
+LiteralSays s literals.Other = Unit {0}
+LiteralSays s (literals.Literal negated variable taken) = LiteralIs s negated variable taken
 
 -- ---- a plain term
 

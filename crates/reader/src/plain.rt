@@ -1,12 +1,11 @@
-// Terms in their plain form, as solvers' files have them: a weight of up to six bytes, a `-` or none and digits; one space; a literal of up to seven, `x` or `~x` and digits; one space, and no blank behind it. They are read eight bytes at a time; a term of any other form is
-// left to the pieces. Assumes nothing.
+// Terms in their plain form, as solvers' files have them: a weight of up to seven bytes, a `-` or none and digits; one space; a literal of up to seven, `x` or `~x` and digits; one space, and no blank behind it. Weight and literal
+// are each read by eight bytes at once, from the rest of the file where they begin; a term of any other form is left to the pieces. Assumes nothing.
 use crate::word::Digits;
 use definitions::Options;
 ghost use mathlib.Core.Path.{_≡_};
 ghost use Prim.Native.Nat.{_≤_, _<_};
 ghost use lib.ListN.{length};
-ghost use Rattle.reader.specs.Lanes.{AtLane};
-ghost use Rattle.reader.specs.Plain.{ShapeSays, WeightSays, LiteralSays, PlainSays, spaced};
+ghost use Rattle.reader.specs.Plain.{WeightSays, LiteralSays, PlainSays, spaced};
 
 // A term whose weight has a sign and a size. The digits of its variable are still in lanes: only a walk that fills columns needs their number.
 pub struct PlainTerm {
@@ -22,24 +21,23 @@ pub enum PlainRead {
     Other,
 }
 
-// The eight bytes at the front, with the bit that shows where the weight's digits may end; the eight behind that place, with the bit that shows where the literal may end.
-pub enum Shape {
-    Words {
-        weight: u64,
-        gap: u32,
-        literal: u64,
-        end: u32,
+// A weight, its digits in lanes, and the bytes that it takes, or anything else.
+pub enum PlainWeight {
+    Weight {
+        negative: bool,
+        digits: u64,
+        taken: usize,
     },
     Other,
 }
 
-pub enum PlainWeight {
-    Weight { negative: bool, size: u64 },
-    Other,
-}
-
+// A literal, the digits of its variable in lanes, and the bytes that it takes, or anything else.
 pub enum PlainLiteral {
-    Literal { negated: bool, variable: u64 },
+    Literal {
+        negated: bool,
+        variable: u64,
+        taken: usize,
+    },
     Other,
 }
 
@@ -52,92 +50,83 @@ const X: u64 = 0x78;
 
 const TILDE_X: u64 = 0x787e;
 
-// Digits, `x` and `~` have the bit 4, a space has not. A weight has one byte at least, and its gap is in the first word with a byte behind it; a literal has two.
-const WEIGHT_GAPS: u64 = 0x0010_1010_1010_1000;
+// Digits, `x` and `~` have the bit 4, a space has not. A weight has one byte at least, a literal two.
+const WEIGHT_GAPS: u64 = 0x1010_1010_1010_1000;
 
 const LITERAL_GAPS: u64 = 0x1010_1010_1010_0000;
 
-fn shape_of(s: &[u8]) -> Shape
-    ensures { λ r. ⌜ ShapeSays (now (s .entry)) r ⌝ }
+// The weight at the front of s: a `-` or none, and digits up to the gap.
+fn plain_weight(s: &[u8]) -> PlainWeight
+    requires { ⌜ 8 ≤ length (now s) ⌝ }
+    ensures { λ r. ⌜ WeightSays (now (s .entry)) r ⌝ }
 {
-    if s.len() < 24 {
-        return Shape::Other;
-    }
-    let weight = crate::word::word_at(s, 0);
+    let word = crate::word::first_word(s);
     // A sum's end is seen before any digit is looked for.
-    if weight & 0xff > NINE {
-        return Shape::Other;
+    if word & 0xff > NINE {
+        return PlainWeight::Other;
     }
-    let gap = crate::word::first_gap(weight, WEIGHT_GAPS);
+    let gap = crate::word::first_gap(word, WEIGHT_GAPS);
     if gap > 60 {
-        return Shape::Other;
+        return PlainWeight::Other;
     }
-    let next = crate::word::word_at(s, 8);
-    let literal = crate::word::word_behind(weight, next, gap);
-    let end = crate::word::first_gap(literal, LITERAL_GAPS);
-    if end > 60 {
-        return Shape::Other;
-    }
-    Shape::Words {
-        weight,
-        gap,
-        literal,
-        end,
-    }
-}
-
-// A `-` or none, and digits up to the gap.
-fn weight_in(word: u64, gap: u32) -> PlainWeight
-    requires { ⌜ AtLane 1 6 gap ⌝ }
-    ensures { λ r. ⌜ WeightSays word gap r ⌝ }
-{
+    let taken = (gap >> 3) as usize;
     if word & 0xff == MINUS {
         if gap < 16 {
             return PlainWeight::Other;
         }
-        let Digits::Lanes(y) = crate::word::digits_in(word >> 8, gap - 12) else {
+        let Digits::Lanes(digits) = crate::word::digits_in(word >> 8, gap - 12) else {
             return PlainWeight::Other;
         };
         return PlainWeight::Weight {
             negative: true,
-            size: crate::word::lane_value(y),
+            digits,
+            taken,
         };
     }
-    let Digits::Lanes(y) = crate::word::digits_in(word, gap - 4) else {
+    let Digits::Lanes(digits) = crate::word::digits_in(word, gap - 4) else {
         return PlainWeight::Other;
     };
     PlainWeight::Weight {
         negative: false,
-        size: crate::word::lane_value(y),
+        digits,
+        taken,
     }
 }
 
-// `x` or `~x`, and digits up to the end.
-fn literal_in(word: u64, end: u32) -> PlainLiteral
-    requires { ⌜ AtLane 2 7 end ⌝ }
-    ensures { λ r. ⌜ LiteralSays word end r ⌝ }
+// The literal at the front of s: `x` or `~x`, and digits up to the gap.
+fn plain_literal(s: &[u8]) -> PlainLiteral
+    requires { ⌜ 8 ≤ length (now s) ⌝ }
+    ensures { λ r. ⌜ LiteralSays (now (s .entry)) r ⌝ }
 {
+    let word = crate::word::first_word(s);
+    let gap = crate::word::first_gap(word, LITERAL_GAPS);
+    if gap > 60 {
+        return PlainLiteral::Other;
+    }
+    let taken = (gap >> 3) as usize;
     if word & 0xff == X {
-        let Digits::Lanes(variable) = crate::word::digits_in(word >> 8, end - 12) else {
+        let Digits::Lanes(variable) = crate::word::digits_in(word >> 8, gap - 12) else {
             return PlainLiteral::Other;
         };
         return PlainLiteral::Literal {
             negated: false,
             variable,
+            taken,
         };
     }
     if word & 0xffff != TILDE_X {
         return PlainLiteral::Other;
     }
-    if end < 24 {
+    if gap < 24 {
         return PlainLiteral::Other;
     }
-    let Digits::Lanes(variable) = crate::word::digits_in(word >> 16, end - 20) else {
+    let Digits::Lanes(variable) = crate::word::digits_in(word >> 16, gap - 20) else {
         return PlainLiteral::Other;
     };
     PlainLiteral::Literal {
         negated: true,
         variable,
+        taken,
     }
 }
 
@@ -155,39 +144,44 @@ fn is_spaced(s: &[u8], gap: usize, end: usize) -> bool
     b' ' < s[end]
 }
 
-// The term at the front of s, if it is plain. A file number above 0 is not below the first index 0 or 1; with another first index no term is plain.
+// The term at the front of s, if it is plain. "Each reading step takes the rest of the file from where the last one stopped": the weight is read from s, the literal from what is left behind the weight's space. They and two
+// spaces take 16 bytes at most. A file number above 0 is not below the first index 0 or 1; with another first index no term is plain.
 pub(crate) fn plain_term(s: &[u8], options: Options) -> PlainRead
     ensures { λ r. ⌜ PlainSays options (now (s .entry)) r ⌝ }
 {
-    let Shape::Words {
-        weight,
-        gap,
-        literal,
-        end,
-    } = shape_of(s)
-    else {
-        return PlainRead::Other;
-    };
-    let taken = ((gap + 8 + end) >> 3) as usize;
-    if !is_spaced(s, (gap >> 3) as usize, taken) {
-        return PlainRead::Other;
-    }
-    let PlainWeight::Weight { negative, size } = weight_in(weight, gap) else {
-        return PlainRead::Other;
-    };
-    let PlainLiteral::Literal { negated, variable } = literal_in(literal, end) else {
-        return PlainRead::Other;
-    };
-    if variable == 0 {
+    if s.len() < 17 {
         return PlainRead::Other;
     }
     if options.first > 1 {
         return PlainRead::Other;
     }
+    let PlainWeight::Weight {
+        negative,
+        digits,
+        taken: gap,
+    } = plain_weight(s)
+    else {
+        return PlainRead::Other;
+    };
+    let PlainLiteral::Literal {
+        negated,
+        variable,
+        taken: long,
+    } = plain_literal(&s[gap + 1..])
+    else {
+        return PlainRead::Other;
+    };
+    let taken = gap + long + 2;
+    if !is_spaced(s, gap, taken) {
+        return PlainRead::Other;
+    }
+    if variable == 0 {
+        return PlainRead::Other;
+    }
     PlainRead::Plain {
         term: PlainTerm {
             negative,
-            size,
+            size: crate::word::lane_value(digits),
             negated,
             variable,
         },

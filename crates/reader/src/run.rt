@@ -2,9 +2,16 @@
 use crate::plain::PlainRead;
 use crate::plain::PlainTerm;
 use definitions::Options;
+use symbols::FileNumber;
+use symbols::FileNumberRead;
+use symbols::LitRead;
+use symbols::Var;
+use symbols::VarRead;
 ghost use mathlib.Core.Path.{_≡_};
 ghost use Prim.Native.Nat.{_+_, _<_, _^_};
 ghost use lib.ListN.{length};
+ghost use Rattle.definitions.specs.Refusal.{accept};
+ghost use Rattle.symbols.specs.Said.{saidLit};
 ghost use Rattle.reader.specs.Fill.{TermPut};
 ghost use Rattle.reader.specs.Plain.{PlainFits, plainTerm};
 ghost use Rattle.reader.specs.Run.{RunSays};
@@ -16,20 +23,32 @@ pub struct PlainRun {
     pub taken: usize,
 }
 
+// The literal of a plain term, by its file number and its variable. Neither is out of range.
+fn plain_lit(term: PlainTerm, first: u32) -> LitRead
+    requires { ⌜ PlainFits first term ⌝ }
+    ensures { λ r. ⌜ saidLit r ≡ accept (plainTerm first term .code) ⌝ }
+{
+    let FileNumberRead::Is(n) = FileNumber::of_digits(crate::word::lane_value(term.variable)) else {
+        return LitRead::OutOfRange;
+    };
+    let VarRead::Is(v) = Var::of_file(n, first) else {
+        return LitRead::OutOfRange;
+    };
+    v.lit(term.negated)
+}
+
 // A plain term at a place of two columns, if both have it.
 fn put_plain(weights: &mut [i64], literals: &mut [u32], at: usize, term: PlainTerm, first: u32)
     requires { ⌜ PlainFits first term ⌝ }
     ensures { λ _. ⌜ TermPut at (plainTerm first term .weight) (plainTerm first term .code) (now (weights .entry)) (now (literals .entry)) (now (weights .exit)) (now (literals .exit)) ⌝ }
 {
     if at < columns::term_room(weights, literals) {
+        let LitRead::Is(literal) = plain_lit(term, first) else {
+            return;
+        };
         let size = term.size as i64;
         weights[at] = if term.negative { -size } else { size };
-        let index = crate::word::lane_value(term.variable) as u32 - first;
-        literals[at] = if term.negated {
-            2 * index + 1
-        } else {
-            2 * index
-        };
+        literals[at] = literal.code();
     }
 }
 
@@ -48,8 +67,9 @@ pub(crate) fn walk_plain(
     let mut terms: usize = from;
     let mut size: u64 = before;
     let mut at: usize = 0;
+    let mut rest = s;
     loop {
-        let PlainRead::Plain { term, taken } = crate::plain::plain_term(&s[at..], options) else {
+        let PlainRead::Plain { term, taken } = crate::plain::plain_term(rest, options) else {
             return PlainRun {
                 terms,
                 size,
@@ -60,5 +80,6 @@ pub(crate) fn walk_plain(
         size = columns::add_size(size, term.size as i64);
         terms += 1;
         at += taken;
+        rest = &rest[taken..];
     }
 }

@@ -24,7 +24,7 @@ fn put_term(weights: &mut [i64], literals: &mut [u32], at: usize, weight: i64, l
 {
     if at < columns::term_room(weights, literals) {
         weights[at] = weight;
-        literals[at] = literal.0;
+        literals[at] = literal.code();
     }
 }
 

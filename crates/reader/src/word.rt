@@ -1,8 +1,8 @@
 // Eight bytes at once. A word holds eight bytes, the first in its lowest lane of eight bits; digits in its lanes are tested and made a number together, without a branch for each. Assumes nothing.
 ghost use mathlib.Core.Path.{_≡_};
-ghost use Prim.Native.Nat.{_+_, _≤_};
-ghost use lib.ListN.{length, take, drop};
-ghost use Rattle.reader.specs.Lanes.{lanes, laneValue, digitLanes, InLanes, AtLane, marked, DigitsSay, behind};
+ghost use Prim.Native.Nat.{_≤_};
+ghost use lib.ListN.{length, take};
+ghost use Rattle.reader.specs.Lanes.{lanes, laneValue, digitLanes, InLanes, marked, DigitsSay};
 
 // `0` in every lane
 const ZEROS: u64 = 0x3030_3030_3030_3030;
@@ -25,19 +25,19 @@ pub enum Digits {
     Other,
 }
 
-// The eight bytes from `at` on.
-pub(crate) fn word_at(s: &[u8], at: usize) -> u64
-    requires { ⌜ at + 8 ≤ length (now s) ⌝ }
-    ensures { λ r. ⌜ lanes 8 r ≡ take 8 (drop at (now (s .entry))) ⌝ }
+// The eight bytes at the front.
+pub(crate) fn first_word(s: &[u8]) -> u64
+    requires { ⌜ 8 ≤ length (now s) ⌝ }
+    ensures { λ r. ⌜ lanes 8 r ≡ take 8 (now (s .entry)) ⌝ }
 {
-    s[at] as u64
-        | (s[at + 1] as u64) << 8
-        | (s[at + 2] as u64) << 16
-        | (s[at + 3] as u64) << 24
-        | (s[at + 4] as u64) << 32
-        | (s[at + 5] as u64) << 40
-        | (s[at + 6] as u64) << 48
-        | (s[at + 7] as u64) << 56
+    s[0] as u64
+        | (s[1] as u64) << 8
+        | (s[2] as u64) << 16
+        | (s[3] as u64) << 24
+        | (s[4] as u64) << 32
+        | (s[5] as u64) << 40
+        | (s[6] as u64) << 48
+        | (s[7] as u64) << 56
 }
 
 // The number whose digits stand in the lanes: pairs of digits, then fours, then all eight.
@@ -74,15 +74,7 @@ pub(crate) fn digits_in(word: u64, bits: u32) -> Digits
 
 // Where the first of the marked bits stands that the word has not; 64 for none.
 pub(crate) fn first_gap(word: u64, marks: u64) -> u32
-    ensures { λ r. ⌜ marked marks r ⌝ }
+    ensures { λ r. ⌜ marked word marks r ⌝ }
 {
     u64::trailing_zeros(!word & marks)
-}
-
-// The eight bytes behind the lane that the gap is in, of a word and the next one.
-pub(crate) fn word_behind(word: u64, next: u64, gap: u32) -> u64
-    requires { ⌜ AtLane 1 6 gap ⌝ }
-    ensures { λ r. ⌜ lanes 8 r ≡ behind gap word next ⌝ }
-{
-    ((word >> 4) >> gap) | ((next << 4) << (56 - gap))
 }

@@ -1,5 +1,6 @@
--- `walk_plain` meets its contract: the loop stands behind a run of plain terms (`Ran`, proofs/Runs.antt). The measure is what is left of the text.
-use Prim.Native.Nat.{ℕ, _+_, _-_}
+-- `walk_plain` meets its contract: the loop stands behind a run of plain terms (`Ran`, proofs/Runs.antt), with the rest of the text from there on. The measure is what is left of the text.
+use Prim.Native.Nat.{ℕ, _+_, _-_, _≤_}
+use mathlib.Core.Path.{_≡_, refl}
 use mathlib.Core.List.{List}
 use native.Mathlib.Omega.{arith}
 use borrow.Author.Needs.{needs}
@@ -10,15 +11,16 @@ use Rattle.definitions.specs.declared.Options.{Options}
 use Rattle.reader.specs.Plain.{PlainIs}
 use Rattle.reader.specs.Run.{Ran, begun}
 use Rattle.reader.specs.declared.plain.PlainTerm.{PlainTerm}
-use Rattle.reader.proofs.Runs.{ran-kept, plain-has-byte, ran-plain, plain-there}
+use Rattle.reader.proofs.Runs.{ran-kept, plain-has-byte, ran-plain, plain-there, rest-behind, rest-holds}
 use Rattle.reader.proofs.run.walk_plain.Statement.{statement}
 use Rattle.reader.proofs.run.walk_plain.Tie as tie
 
 abbrev Inv-loop : tie.InvT-loop
-Inv-loop s options weights₀ literals₀ from before terms₀ size₀ at₀ weights literals terms size at = Ran options s from before weights₀ literals₀ at terms size weights literals
+Inv-loop s options weights₀ literals₀ from before terms₀ size₀ at₀ rest₀ weights literals terms size at rest =
+    (rest ≡ drop at s) × Ran options s from before weights₀ literals₀ at terms size weights literals
 
 abbrev μ-loop : tie.MeasureT-loop
-μ-loop s options weights₀ literals₀ from before terms₀ size₀ at₀ weights literals terms size at = length s - at
+μ-loop s options weights₀ literals₀ from before terms₀ size₀ at₀ rest₀ weights literals terms size at rest = length s - at
 
 -- a turn begins
 module _ (c : tie.At-loop Inv-loop μ-loop) where
@@ -37,7 +39,7 @@ module _ (c : tie.At-loop Inv-loop μ-loop) where
 -- a plain term stands there
 module _ (c : tie.After-term Inv-loop μ-loop) where
   abbrev turn : tie.At-loop Inv-loop μ-loop
-  turn = c .before .before .before .before
+  turn = c .before .before .before
 
   abbrev found : PlainTerm
   found = c .term .given .0 .0
@@ -46,7 +48,7 @@ module _ (c : tie.After-term Inv-loop μ-loop) where
   bytes = c .term .given .0 .1 .0
 
   plain : PlainIs (options turn) (drop (turn .loop .at) (text turn)) found bytes
-  plain = plain-there (text turn) (turn .loop .at) (c .before .before .plain-term .ensures) (c .term .given .1)
+  plain = plain-there (text turn) (turn .loop .at) bytes (turn .loop .inv .0) (c .before .before .plain-term .ensures) (c .term .given .1)
 
 -- and is put and counted
 module _ (c : tie.After-add-size Inv-loop μ-loop) where
@@ -57,19 +59,13 @@ module _ (c : tie.After-add-size Inv-loop μ-loop) where
   here = put .before .before .before .before
 
   next : RanTo (turn here) (turn here .loop .at + bytes here) (turn here .loop .terms + 1) (c .add-size .result) (put .put-plain .last .0) (put .put-plain .last .1 .0)
-  next = ran-plain (turn here .loop .inv) (plain here) (c .add-size .ensures) (put .put-plain .ensures)
+  next = ran-plain (turn here .loop .inv .1) (plain here) (c .add-size .ensures) (put .put-plain .ensures)
+
+  held : bytes here ≤ length (now (turn here .loop .rest))
+  held = rest-holds (text (turn here)) (turn here .loop .at) (bytes here) (turn here .loop .inv .0) (ran-kept next .within)
 
 loop-holds : tie.Need-loop-holds Inv-loop μ-loop
-loop-holds c = begun
-
-sub-plain-term : tie.Need-sub-plain-term Inv-loop μ-loop
-sub-plain-term c = ran-kept (c .loop .inv) .within
-
-part-plain-term-start : tie.Need-part-plain-term-start Inv-loop μ-loop
-part-plain-term-start c = ran-kept (c .loop .inv) .within
-
-part-plain-term-end : tie.Need-part-plain-term-end Inv-loop μ-loop
-part-plain-term-end c = search needs
+loop-holds c = (refl, begun)
 
 plain-term-requires : tie.Need-plain-term-requires Inv-loop μ-loop
 plain-term-requires c κs = search needs
@@ -81,13 +77,13 @@ enum-told : tie.Need-enum-told Inv-loop μ-loop
 enum-told c = search needs
 
 same-length : tie.Need-same-length Inv-loop μ-loop
-same-length c = ran-kept (c .before .before .before .before .loop .inv) .weights
+same-length c = ran-kept (c .before .before .before .loop .inv .1) .weights
 
 same-length-2 : tie.Need-same-length-2 Inv-loop μ-loop
-same-length-2 c = ran-kept (c .before .before .before .before .loop .inv) .literals
+same-length-2 c = ran-kept (c .before .before .before .loop .inv .1) .literals
 
 returns : tie.Need-returns Inv-loop μ-loop
-returns c = c .before .before .before .before .loop .inv
+returns c = c .before .before .before .loop .inv .1
 
 put-plain-requires : tie.Need-put-plain-requires Inv-loop μ-loop
 put-plain-requires c κs = plain (c .before .before .before) .fits
@@ -104,11 +100,22 @@ add-terms c = omega (arith, ran-kept (next c) .within, ran-kept (next c) .fewer,
 add-at : tie.Need-add-at Inv-loop μ-loop
 add-at c = omega (arith, ran-kept (next c) .within, start (turn (here c)) .good)
 
+sub-rest : tie.Need-sub-rest Inv-loop μ-loop
+sub-rest c = held c
+
+part-rest-start : tie.Need-part-rest-start Inv-loop μ-loop
+part-rest-start c = held c
+
+part-rest-end : tie.Need-part-rest-end Inv-loop μ-loop
+part-rest-end c = search needs
+
 loop-less : tie.Need-loop-less Inv-loop μ-loop
-loop-less c = omega (arith, ran-kept (next c) .within, plain-has-byte (turn (here c) .loop .inv) (plain (here c)))
+loop-less c = let h = here (c .before) in omega (arith, ran-kept (next (c .before)) .within, plain-has-byte (turn h .loop .inv .1) (plain h))
 
 loop-again : tie.Need-loop-again Inv-loop μ-loop
-loop-again c = next c
+loop-again c =
+    let h = here (c .before) in
+    (rest-behind (text (turn h)) (turn h .loop .at) (bytes h) (turn h .loop .inv .0), next (c .before))
 
 pub walk-plain-spec : {M : Type 1} → statement M
 walk-plain-spec =
@@ -117,9 +124,6 @@ walk-plain-spec =
     Inv-loop
     μ-loop
     loop-holds
-    sub-plain-term
-    part-plain-term-start
-    part-plain-term-end
     plain-term-requires
     enum-known-term
     enum-told
@@ -131,5 +135,8 @@ walk-plain-spec =
     add-size-requires
     add-terms
     add-at
+    sub-rest
+    part-rest-start
+    part-rest-end
     loop-less
     loop-again)

@@ -16,6 +16,9 @@ mul-weight c = search needs
 slice-set-from-weight : tie.Need-slice-set-from-weight
 slice-set-from-weight c = search needs
 
+code-requires : tie.Need-code-requires
+code-requires c κs = search needs
+
 mul-literals : tie.Need-mul-literals
 mul-literals c = search needs
 
@@ -30,8 +33,10 @@ same-length-2 c = search needs
 
 returns : tie.Need-returns
 returns c =
-    let a = c .before .before .before .before .before .args in
-    rw (toZ-ofZ (c .before .before .before .before .before .fits .weight)) (put-there (a .at) (a .weight) (a .literal .0) (now (a .weights)) (now (a .literals)) (omega (arith, c .before .term-room .ensures, c .if1 .taken)))
+    let room = c .before .before in
+    let start = room .before .before .before .before in
+    let a = start .args in
+    rw (toZ-ofZ (start .fits .weight), c .code .ensures) (put-there (a .at) (a .weight) (a .literal .0) (now (a .weights)) (now (a .literals)) (omega (arith, room .term-room .ensures, c .before .if1 .taken)))
 
 same-length-3 : tie.Need-same-length-3
 same-length-3 c = search needs
@@ -51,6 +56,7 @@ put-term-spec =
     term-room-requires
     mul-weight
     slice-set-from-weight
+    code-requires
     mul-literals
     slice-write-literals
     same-length
