@@ -42,7 +42,7 @@ pub extern "C" fn opb_write(
     }
 }
 
-// The house lines of the first `rows` rows, or of all where there are fewer. 11 row by row; then 14.
+// The house lines of the first `rows` rows, or of all where there are fewer. 11, 5 row by row; then 14.
 #[no_mangle]
 pub extern "C" fn opb_list(
     kinds: &[u8],

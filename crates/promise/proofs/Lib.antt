@@ -1,3 +1,5 @@
+pub mod Lent
 pub mod Laws
 pub mod TableP
 pub mod OneAnswer
+pub mod Promises

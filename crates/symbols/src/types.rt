@@ -13,13 +13,13 @@ const INDEX_LIMIT: u32 = 1_073_741_823;
 const FILE_NUMBER_LIMIT: u64 = 4_294_967_295;
 
 // The number behind an `x` in a file.
-pub struct FileNumber(pub u32);
+pub struct FileNumber(u32);
 
 // A variable: its index.
-pub struct Var(pub u32);
+pub struct Var(u32);
 
 // A literal: its code, twice the index, plus 1 if negated.
-pub struct Lit(pub u32);
+pub struct Lit(u32);
 
 pub enum FileNumberRead {
     Is(FileNumber),

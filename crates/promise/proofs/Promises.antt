@@ -1,0 +1,83 @@
+-- Everything that a user relies on, in one file. Each promise has its sentence in plain words and a proof of one line, which cites the work. What the words mean: crates/definitions/specs.
+use Prim.Native.Nat.{ℕ, _≤_, _<_}
+use mathlib.Core.Path.{_≡_, sym, _∙_}
+use mathlib.Core.Logic.{_⊎_}
+use mathlib.Core.List.{List}
+use denote.Ref.{now}
+use lib.ListN.{length}
+use Rattle.definitions.specs.Limits.{fileLimit}
+use Rattle.definitions.specs.Lists.{AllOf}
+use Rattle.definitions.specs.Refusal.{Refusal, refusal}
+use Rattle.definitions.specs.Row.{Line}
+use Rattle.definitions.specs.Table.{Table, refused, accepted}
+use Rattle.definitions.specs.File.{file}
+use Rattle.definitions.specs.Write.{writing}
+use Rattle.definitions.specs.TableP.{Example, tableP}
+use Rattle.definitions.specs.Document.{File, WellFormed}
+use Rattle.definitions.specs.DocumentRead.{WithinLimits}
+use Rattle.definitions.specs.declared.Options.{Options}
+use Rattle.definitions.specs.declared.Mode.{Mode}
+use Rattle.reader.specs.Reads.{Reads}
+use Rattle.reader.proofs.parse_opb_data.Reads as parse-opb-data
+use Rattle.writer.specs.Writes.{Writes}
+use Rattle.writer.proofs.write_opb_lines.Reads as write-opb-lines
+use Rattle.normaliser.specs.Normalises.{Normalises}
+use Rattle.normaliser.proofs.normalise.Reads as normalise
+use Rattle.evaluator.proofs.evaluate.Reads as evaluate
+use Rattle.promise.proofs.Lent.{columns}
+
+-- ---- What the code promises. `Post` is the contract that the prover makes of the source, over what a call is lent (a), its answer (r) and what it leaves (s). That the code meets it on every input, ends and
+-- does nothing undefined is what the check of its crate says.
+
+-- Reading: answer and columns afterwards are those of `reading`. A refused call changes nothing; an accepted one changes only the entries it counts, from the front.
+pub reading-as-defined : (κs : _) (a : _) (r : _) (s : _) → parse-opb-data.Post κs a r s → Reads (a .1 .0) (now (a .0)) (columns (a .1 .1)) r (columns (s .1 .1))
+reading-as-defined κs a r s p = p
+
+-- Writing: answer and output afterwards are those of `writing`. A refused call changes no byte.
+pub writing-as-defined : (κs : _) (a : _) (r : _) (s : _) → write-opb-lines.Post κs a r s
+    → Writes (a .1 .1 .1 .1 .1 .1 .1 .0) (columns a) (now (a .1 .1 .1 .1 .1 .1 .0)) (now (a .1 .1 .1 .1 .1 .1 .1 .1 .0)) r (now (s .1 .1 .1 .1 .1 .1 .1 .1 .0))
+writing-as-defined κs a r s p = p
+
+-- Normalising: answer and columns afterwards are those of `normalising`.
+pub normalising-as-defined : (κs : _) (a : _) (r : _) (s : _) → normalise.Post κs a r s → Normalises (columns a) (columns (a .1 .1 .1 .1 .1 .1)) r (columns (s .1 .1 .1 .1 .1 .1))
+normalising-as-defined κs a r s p = p
+
+-- Evaluating one row: sum and truth, or value, and the ones are those of `evaluating`.
+pub evaluating-as-defined : (κs : _) (a : _) (r : _) (s : _) → evaluate.Post κs a r s → Rattle.evaluator.specs.Said.saidEvaluated r ≡ Rattle.definitions.specs.Evaluate.evaluating (columns a) (a .1 .1 .1 .1 .1 .1 .0) (now (a .1 .1 .1 .1 .1 .1 .1 .0))
+evaluating-as-defined κs a r s p = p
+
+-- One answer: two answers that a contract allows are equal, and so is what they leave.
+pub reading-one : {o : Options} {f : List ℕ} {t t₁ t₂ : Table} (r₁ r₂ : _) → Reads o f t r₁ t₁ → Reads o f t r₂ t₂ → (r₁ ≡ r₂) × (t₁ ≡ t₂)
+reading-one r₁ r₂ p q = (Rattle.reader.proofs.OneTable.said-answer r₁ r₂ (p .answer ∙ sym (q .answer)), p .after ∙ sym (q .after))
+
+pub writing-one : {m : Mode} {t : Table} {c o o₁ o₂ : List ℕ} (r₁ r₂ : _) → Writes m t c o r₁ o₁ → Writes m t c o r₂ o₂ → (r₁ ≡ r₂) × (o₁ ≡ o₂)
+writing-one r₁ r₂ p q = (Rattle.writer.proofs.OneAnswer.said-one r₁ r₂ (p .answer ∙ sym (q .answer)), p .after ∙ sym (q .after))
+
+pub normalising-one : {t o t₁ t₂ : Table} (r₁ r₂ : _) → Normalises t o r₁ t₁ → Normalises t o r₂ t₂ → (r₁ ≡ r₂) × (t₁ ≡ t₂)
+normalising-one r₁ r₂ p q = (Rattle.normaliser.proofs.OneAnswer.said-answer r₁ r₂ (p .answer ∙ sym (q .answer)), p .after ∙ sym (q .after))
+
+-- Every example that 01 marks P is answered so by whatever the contracts of reader and writer allow.
+pub examples-answered : AllOf (λ (e : Example). Rattle.promise.proofs.TableP.Answered (e .question) (e .answer)) tableP
+examples-answered = Rattle.promise.proofs.TableP.every-example-through-code
+
+-- ---- What the definitions are worth.
+
+-- There and back: rows that the writer accepts, in either literal mode, are read back one for one, in order, and mean what they meant (demand 3; the record says each part).
+pub there-and-back : (m : Mode) (t : Table) (text : List ℕ) (room : ℕ) (s : List ℕ) → writing m t text room ≡ accepted s → Rattle.definitions.proofs.ThereAndBack.ThereAndBack m t text s
+there-and-back = Rattle.definitions.proofs.ThereAndBack.there-and-back
+
+-- The whole file: of an accepted file every byte belongs to a statement or is a blank between two.
+pub nothing-dropped : (o : Options) (s : List ℕ) (ls : List Line) → file o s ≡ accepted ls → (length s ≤ fileLimit) × Rattle.definitions.proofs.WholeFile.WholeFile o s ls
+nothing-dropped = Rattle.definitions.proofs.WholeFile.file-is-whole
+
+-- A refused file is too long, or is refused at a place in it, behind whole statements.
+pub refused-there : (o : Options) (s : List ℕ) (r : Refusal) → file o s ≡ refused r → ((fileLimit < length s) × (r ≡ refusal 1 0)) ⊎ Rattle.definitions.proofs.WholeFile.BrokenFile o s r
+refused-there = Rattle.definitions.proofs.WholeFile.file-is-broken
+
+-- Same answers: walked one statement per call, a file gives what it gives when it is read at once.
+pub same-answers : (o : Options) (s : List ℕ) → Rattle.definitions.specs.Stepping.stepsFrom o s 0 ≡ file o s
+same-answers = Rattle.definitions.proofs.SameAnswers.same-answers
+
+-- The OPB document's files are read, with the document's meaning.
+pub document-read : (f : File) → WellFormed f → WithinLimits f → Rattle.definitions.proofs.OpbDocument.DocumentRead f
+document-read = Rattle.definitions.proofs.OpbDocument.document-read
