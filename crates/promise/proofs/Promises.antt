@@ -6,15 +6,10 @@ use mathlib.Core.List.{List}
 use denote.Ref.{now}
 use lib.ListN.{length}
 use Rattle.definitions.specs.Limits.{fileLimit}
-use Rattle.definitions.specs.Lists.{AllOf}
 use Rattle.definitions.specs.Refusal.{Refusal, refusal}
 use Rattle.definitions.specs.Row.{Line}
 use Rattle.definitions.specs.Table.{Table, refused, accepted}
 use Rattle.definitions.specs.File.{file}
-use Rattle.definitions.specs.Write.{writing}
-use Rattle.definitions.specs.TableP.{Example, tableP}
-use Rattle.definitions.specs.Document.{File, WellFormed}
-use Rattle.definitions.specs.DocumentRead.{WithinLimits}
 use Rattle.definitions.specs.declared.Options.{Options}
 use Rattle.definitions.specs.declared.Mode.{Mode}
 use Rattle.reader.specs.Reads.{Reads}
@@ -56,14 +51,17 @@ writing-one r₁ r₂ p q = (Rattle.writer.proofs.OneAnswer.said-one r₁ r₂ 
 pub normalising-one : {t o t₁ t₂ : Table} (r₁ r₂ : _) → Normalises t o r₁ t₁ → Normalises t o r₂ t₂ → (r₁ ≡ r₂) × (t₁ ≡ t₂)
 normalising-one r₁ r₂ p q = (Rattle.normaliser.proofs.OneAnswer.said-answer r₁ r₂ (p .answer ∙ sym (q .answer)), p .after ∙ sym (q .after))
 
+pub evaluating-one : (r₁ r₂ : _) → Rattle.evaluator.specs.Said.saidEvaluated r₁ ≡ Rattle.evaluator.specs.Said.saidEvaluated r₂ → r₁ ≡ r₂
+evaluating-one = Rattle.evaluator.proofs.OneAnswer.said-evaluated
+
 -- Every example that 01 marks P is answered so by whatever the contracts of reader and writer allow.
-pub examples-answered : AllOf (λ (e : Example). Rattle.promise.proofs.TableP.Answered (e .question) (e .answer)) tableP
+pub examples-answered : Rattle.promise.proofs.TableP.EveryExampleAnswered
 examples-answered = Rattle.promise.proofs.TableP.every-example-through-code
 
 -- ---- What the definitions are worth.
 
 -- There and back: rows that the writer accepts, in either literal mode, are read back one for one, in order, and mean what they meant (demand 3; the record says each part).
-pub there-and-back : (m : Mode) (t : Table) (text : List ℕ) (room : ℕ) (s : List ℕ) → writing m t text room ≡ accepted s → Rattle.definitions.proofs.ThereAndBack.ThereAndBack m t text s
+pub there-and-back : (m : Mode) (t : Table) (text : List ℕ) (room : ℕ) (s : List ℕ) → Rattle.definitions.specs.Write.writing m t text room ≡ accepted s → Rattle.definitions.proofs.ThereAndBack.ThereAndBack m t text s
 there-and-back = Rattle.definitions.proofs.ThereAndBack.there-and-back
 
 -- The whole file: of an accepted file every byte belongs to a statement or is a blank between two.
@@ -79,5 +77,5 @@ pub same-answers : (o : Options) (s : List ℕ) → Rattle.definitions.specs.St
 same-answers = Rattle.definitions.proofs.SameAnswers.same-answers
 
 -- The OPB document's files are read, with the document's meaning.
-pub document-read : (f : File) → WellFormed f → WithinLimits f → Rattle.definitions.proofs.OpbDocument.DocumentRead f
+pub document-read : (f : Rattle.definitions.specs.Document.File) → Rattle.definitions.specs.Document.WellFormed f → Rattle.definitions.specs.DocumentRead.WithinLimits f → Rattle.definitions.proofs.OpbDocument.DocumentRead f
 document-read = Rattle.definitions.proofs.OpbDocument.document-read

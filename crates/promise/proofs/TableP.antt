@@ -65,5 +65,8 @@ each-answered : (es : List Example) → AllOf (λ (e : Example). answerTo (e .qu
 each-answered [] g = tt
 each-answered (e ∷ es) g = (rw (g .0) at (answered (e .question)), each-answered es (g .1))
 
-pub every-example-through-code : AllOf (λ (e : Example). Answered (e .question) (e .answer)) tableP
+abbrev pub EveryExampleAnswered : Type 0
+EveryExampleAnswered = AllOf (λ (e : Example). Answered (e .question) (e .answer)) tableP
+
+pub every-example-through-code : EveryExampleAnswered
 every-example-through-code = each-answered tableP (each-alike (λ (e : Example). answerTo (e .question)) (λ (e : Example). e .answer) tableP every-example)

@@ -88,9 +88,7 @@ fn foresee(
     ensures { λ r. ⌜ saidReturned r ≡ returning mode (table (now (newkinds .entry)) (now (newfirsts .entry)) (now (newcounts .entry)) (now (newbounds .entry)) (now (newweights .entry)) (now (newliterals .entry)))
         (writing mode (table (now (kinds .entry)) (now (firsts .entry)) (now (counts .entry)) (now (bounds .entry)) (now (weights .entry)) (now (literals .entry))) (now (text .entry)) room) ⌝ }
 {
-    match writer::measure_opb_lines(
-        kinds, firsts, counts, bounds, weights, literals, text, mode,
-    ) {
+    match writer::measure_opb_lines(kinds, firsts, counts, bounds, weights, literals, text, mode) {
         Measure::Refused { number, place } => Returned::NotWritten { number, place },
         Measure::Lines(all) => {
             let rows = columns::row_room(newkinds, newfirsts, newcounts, newbounds);
