@@ -21,8 +21,7 @@ use Rattle.normaliser.proofs.normalise.Reads as normalise
 use Rattle.evaluator.proofs.evaluate.Reads as evaluate
 use Rattle.promise.proofs.Lent.{columns}
 
--- ---- What the code promises. `Post` is the contract that the prover makes of the source, over what a call is lent (a), its answer (r) and what it leaves (s). That the code meets it on every input, ends and
--- does nothing undefined is what the check of its crate says.
+-- ---- What the code promises. `Post` is the contract that the prover makes of the source, over what a call is lent (a), its answer (r) and what it leaves (s); the check of a crate proves that its code meets it.
 
 -- Reading: answer and columns afterwards are those of `reading`. A refused call changes nothing; an accepted one changes only the entries it counts, from the front.
 pub reading-as-defined : (κs : _) (a : _) (r : _) (s : _) → parse-opb-data.Post κs a r s → Reads (a .1 .0) (now (a .0)) (columns (a .1 .1)) r (columns (s .1 .1))
