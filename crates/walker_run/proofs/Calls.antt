@@ -1,5 +1,5 @@
 -- The calls of the walker's functions, as the walks of this program use them: what each asks, made of what a walker owns and of its lifetime's token, and what it gives back, with the walker that its contract names.
--- Options and numbers own facts alone, which are made anew; a walker and the file's slice can be copied.
+-- Options and numbers own facts alone, which are made anew; a walker and the file's slice can be copied. Assumes nothing.
 use mathlib.Core.Path.{_≡_, refl}
 use Prim.Native.Nat.{ℕ, _<_, _^_}
 use mathlib.Core.List.{List, [], _∷_}
@@ -80,43 +80,51 @@ B κ = T.the-row (record { mir = named 1; lft = κ })
 abbrev pub behind : Walker → Walker
 behind d = walkerAt (d .file) (d .options) (offsetAfter (stepOf d) (d .at))
 
+-- r tells the walker's next statement
+abbrev pub Tells : Walker → Stepped → Type 0
+Tells d r = saidStepped r ≡ briefStepped (stepOf d)
+
+-- what a walker with the machine value u owns, what a file's slice owns, and the local at l, with a walker
+abbrev pub Own : Lft → Walker → Val → Fml
+Own κ d u = Held κ .own d (u ∷ [])
+
+abbrev pub sliceOf : RefT (List ℕ) → Val
+sliceOf s = sliceVal (s .ptr) (length (s .now))
+
+abbrev pub File : Lft → RefT (List ℕ) → Fml
+File κ s = ShrSlice (named 0) κ u8 .own s (sliceOf s ∷ [])
+
+abbrev pub Cell : ℕ → Val → Fml
+Cell l u = fat fullShare (T′.mir erased) l 0 u
+
+-- a walker's machine value is of the struct's type, as a local has it
+pub typed : {M : Type 1} (𝓤 : URA M) (H : Heap 𝓤) (A : Atoms 𝓤) (W : Given 𝓤 H A) (κ : Lft) (d : Walker) (u : Val) → Is (Held κ) d (u ∷ []) → Holds (hasTy (T′.mir erased) u) × WT u
+typed 𝓤 H A W κ d u is = struct.lawful (T.the-type (record { mir = erased; lft = κ })) (T′.the-laws (record { mir = erased; lft = κ })) 𝓤 H A W .typed d (u ∷ []) is .0
+
 module _ {M : Type 1} (𝓤 : URA M) (H : Heap 𝓤) (A : Atoms 𝓤) (W : Given 𝓤 H A) (mem : Memory → SProp 𝓤) (run : Routine → Fun 𝓤) (κ : Lft) (q : Share) where
-  -- a walker's machine value is of the struct's type, as a local has it
-  pub typed : (d : Walker) (u : Val) → Is (Held κ) d (u ∷ []) → Holds (hasTy (T′.mir erased) u) × WT u
-  typed d u is = struct.lawful (T.the-type (record { mir = erased; lft = κ })) (T′.the-laws (record { mir = erased; lft = κ })) 𝓤 H A W .typed d (u ∷ []) is .0
-
-  abbrev pub Own : Walker → Val → Fml
-  Own d u = Held κ .own d (u ∷ [])
-
   -- ---- `new`
   module _ (s : RefT (List ℕ)) (p : Options) where
-    abbrev v : Val
-    v = sliceVal (s .ptr) (length (s .now))
-
-    abbrev pub Slice : Fml
-    Slice = ShrSlice (named 0) κ u8 .own s (v ∷ [])
-
     abbrev pub to-new : New 𝓤 H A mem run .Ghost
-    to-new = (((κ, tt), (q, tt), tt, (s, (p, tt)), (v ∷ [], (O′.lowered p ∷ [], tt))), tt)
+    to-new = (((κ, tt), (q, tt), tt, (s, (p, tt)), (sliceOf s ∷ [], (O′.lowered p ∷ [], tt))), tt)
 
-    pub asks-new : Is O.the-row p (O′.lowered p ∷ []) → ent 𝓤 (⋆ 𝓤 H A (‵ Slice ∷ ‵ (flft κ q) ∷ [])) (sep 𝓤 (New 𝓤 H A mem run .pre to-new) (sem 𝓤 H A Slice))
+    pub asks-new : Is O.the-row p (O′.lowered p ∷ []) → ent 𝓤 (⋆ 𝓤 H A (‵ (File κ s) ∷ ‵ (flft κ q) ∷ [])) (sep 𝓤 (New 𝓤 H A mem run .pre to-new) (sem 𝓤 H A (File κ s)))
     asks-new is =
-        qed W (‵ Slice ∷ ‵ (flft κ q) ∷ []) ∵ use1 W (‵ Slice ⊛ ‵ Slice) (shr-slice-copy 𝓤 H A W (named 0) κ u8 .twice s (v ∷ [])) $ split ! $
+        qed W (‵ (File κ s) ∷ ‵ (flft κ q) ∷ []) ∵ use1 W (‵ (File κ s) ⊛ ‵ (File κ s)) (shr-slice-copy 𝓤 H A W (named 0) κ u8 .twice s (sliceOf s ∷ [])) $ split ! $
         nothing ! $ owned ! O.the-row (Is O.the-row) (struct.makes O.the-type O′.the-plain 𝓤 H A) p (O′.lowered p ∷ []) is $ fjoin ! $ move ! (1 ∷ 0 ∷ []) $ fjoin ! $
         -- [what `new` is passed; the slice; the token]
         nothing ! $ move ! (3 ∷ 0 ∷ []) $ join ! $
-        use2 W (raw (New 𝓤 H A mem run .pre to-new)) (qed W ((‵ (flft κ q) ⊛ ‵ ftrue) ∷ ‵ (owns (ShrSlice (named 0) κ u8 ∷ O.the-row ∷ []) (s, (p, tt)) (v ∷ [], (O′.lowered p ∷ [], tt))) ∷ []) ∵ join ! $ frame ! $ done !) $
+        use2 W (raw (New 𝓤 H A mem run .pre to-new)) (qed W ((‵ (flft κ q) ⊛ ‵ ftrue) ∷ ‵ (owns (ShrSlice (named 0) κ u8 ∷ O.the-row ∷ []) (s, (p, tt)) (sliceOf s ∷ [], (O′.lowered p ∷ [], tt))) ∷ []) ∵ join ! $ frame ! $ done !) $
         frame ! $ done !
 
     new-said : (d : Walker) → ent 𝓤 (ensured 𝓤 H A new.ended (new.clauses 𝓤 H A mem run) (κ, tt) (s, (p, tt)) tt d) (fact 𝓤 (d ≡ walkerAt s p 0))
     new-said d = exE 𝓤 _ (λ ws. snd∗ 𝓤 (sem 𝓤 H A (lasts new.ended (κ, tt) (s, (p, tt)) ws)) (fact 𝓤 (d ≡ walkerAt s p 0)))
 
-    pub gives-new : (u : Val) → ent 𝓤 (New 𝓤 H A mem run .post to-new u) (H .⇛ (sep 𝓤 (A .lft κ q) (sem 𝓤 H A (Own (walkerAt s p 0) u))))
+    pub gives-new : (u : Val) → ent 𝓤 (New 𝓤 H A mem run .post to-new u) (H .⇛ (sep 𝓤 (A .lft κ q) (sem 𝓤 H A (Own κ (walkerAt s p 0) u))))
     gives-new u =
         qed W (raw (New 𝓤 H A mem run .post to-new u) ∷ []) ∵ updating ! $
-        use1 W (later (some (λ (d : Walker). ((‵ (flft κ q) ⊛ ‵ ftrue) ⊛ ‵ (Own d u)) ⊛ raw (ensured 𝓤 H A new.ended (new.clauses 𝓤 H A mem run) (κ, tt) (s, (p, tt)) tt d)))) (id⊢ 𝓤 _) $ await ! tt $ pick ! (λ d.
+        use1 W (later (some (λ (d : Walker). ((‵ (flft κ q) ⊛ ‵ ftrue) ⊛ ‵ (Own κ d u)) ⊛ raw (ensured 𝓤 H A new.ended (new.clauses 𝓤 H A mem run) (κ, tt) (s, (p, tt)) tt d)))) (id⊢ 𝓤 _) $ await ! tt $ pick ! (λ d.
         split ! $ move ! (1 ∷ []) $ use1 W (raw (fact 𝓤 (d ≡ walkerAt s p 0))) (new-said d) $ heard ! (d ≡ walkerAt s p 0) (λ e.
-        split ! $ rewrite ! 1 (λ (h : Walker). ‵ (Own h u)) e refl $ split ! $ at-once ! $ keep ! (0 ∷ 2 ∷ []) $ done !))
+        split ! $ rewrite ! 1 (λ (h : Walker). ‵ (Own κ h u)) e refl $ split ! $ at-once ! $ keep ! (0 ∷ 2 ∷ []) $ done !))
 
   -- ---- `moved`, `step` and `at`, on the walker d with the machine value u
   module _ (d : Walker) (u : Val) where
@@ -124,46 +132,43 @@ module _ {M : Type 1} (𝓤 : URA M) (H : Heap 𝓤) (A : Atoms 𝓤) (W : Given
       abbrev pub to-moved : Moved 𝓤 H A mem run .Ghost
       to-moved = (((κ, tt), (q, tt), tt, (d, (n, tt)), (u ∷ [], (vint w64 n ∷ [], tt))), tt)
 
-      pub asks-moved : n < 2 ^ 64 → ent 𝓤 (⋆ 𝓤 H A (‵ (Own d u) ∷ ‵ (flft κ q) ∷ [])) (Moved 𝓤 H A mem run .pre to-moved)
+      pub asks-moved : n < 2 ^ 64 → ent 𝓤 (⋆ 𝓤 H A (‵ (Own κ d u) ∷ ‵ (flft κ q) ∷ [])) (Moved 𝓤 H A mem run .pre to-moved)
       asks-moved small =
-          qed W (‵ (Own d u) ∷ ‵ (flft κ q) ∷ []) ∵ nothing ! $ owned ! usize (Is usize) (uint-makes 𝓤 H A W w64) n _ (refl, small) $ fjoin ! $ move ! (1 ∷ 0 ∷ []) $ fjoin ! $
+          qed W (‵ (Own κ d u) ∷ ‵ (flft κ q) ∷ []) ∵ nothing ! $ owned ! usize (Is usize) (uint-makes 𝓤 H A W w64) n _ (refl, small) $ fjoin ! $ move ! (1 ∷ 0 ∷ []) $ fjoin ! $
           nothing ! $ move ! (2 ∷ 0 ∷ []) $ join ! $ join ! $ frame ! $ done !
 
       moved-said : (d′ : Walker) → ent 𝓤 (ensured 𝓤 H A moved.ended (moved.clauses 𝓤 H A mem run) (κ, tt) (d, (n, tt)) tt d′) (fact 𝓤 (d′ ≡ walkerAt (d .file) (d .options) n))
       moved-said d′ = exE 𝓤 _ (λ ws. snd∗ 𝓤 (sem 𝓤 H A (lasts moved.ended (κ, tt) (d, (n, tt)) ws)) (fact 𝓤 (d′ ≡ walkerAt (d .file) (d .options) n)))
 
-      pub gives-moved : (u′ : Val) → ent 𝓤 (Moved 𝓤 H A mem run .post to-moved u′) (H .⇛ (sep 𝓤 (A .lft κ q) (sem 𝓤 H A (Own (walkerAt (d .file) (d .options) n) u′))))
+      pub gives-moved : (u′ : Val) → ent 𝓤 (Moved 𝓤 H A mem run .post to-moved u′) (H .⇛ (sep 𝓤 (A .lft κ q) (sem 𝓤 H A (Own κ (walkerAt (d .file) (d .options) n) u′))))
       gives-moved u′ =
           qed W (raw (Moved 𝓤 H A mem run .post to-moved u′) ∷ []) ∵ updating ! $
-          use1 W (later (some (λ (d′ : Walker). ((‵ (flft κ q) ⊛ ‵ ftrue) ⊛ ‵ (Own d′ u′)) ⊛ raw (ensured 𝓤 H A moved.ended (moved.clauses 𝓤 H A mem run) (κ, tt) (d, (n, tt)) tt d′)))) (id⊢ 𝓤 _) $ await ! tt $ pick ! (λ d′.
+          use1 W (later (some (λ (d′ : Walker). ((‵ (flft κ q) ⊛ ‵ ftrue) ⊛ ‵ (Own κ d′ u′)) ⊛ raw (ensured 𝓤 H A moved.ended (moved.clauses 𝓤 H A mem run) (κ, tt) (d, (n, tt)) tt d′)))) (id⊢ 𝓤 _) $ await ! tt $ pick ! (λ d′.
           split ! $ move ! (1 ∷ []) $ use1 W (raw (fact 𝓤 (d′ ≡ walkerAt (d .file) (d .options) n))) (moved-said d′) $ heard ! (d′ ≡ walkerAt (d .file) (d .options) n) (λ e.
-          split ! $ rewrite ! 1 (λ (h : Walker). ‵ (Own h u′)) e refl $ split ! $ at-once ! $ keep ! (0 ∷ 2 ∷ []) $ done !))
+          split ! $ rewrite ! 1 (λ (h : Walker). ‵ (Own κ h u′)) e refl $ split ! $ at-once ! $ keep ! (0 ∷ 2 ∷ []) $ done !))
 
     -- `step` and `at` ask the same
     abbrev pub to-step : Step 𝓤 H A mem run .Ghost
     to-step = (((κ, tt), (q, tt), tt, (d, tt), (u ∷ [], tt)), tt)
 
-    pub asks-step : ent 𝓤 (⋆ 𝓤 H A (‵ (Own d u) ∷ ‵ (flft κ q) ∷ [])) (Step 𝓤 H A mem run .pre to-step)
-    asks-step = qed W (‵ (Own d u) ∷ ‵ (flft κ q) ∷ []) ∵ nothing ! $ move ! (1 ∷ 0 ∷ []) $ fjoin ! $ nothing ! $ move ! (2 ∷ 0 ∷ []) $ join ! $ join ! $ frame ! $ done !
+    pub asks-step : ent 𝓤 (⋆ 𝓤 H A (‵ (Own κ d u) ∷ ‵ (flft κ q) ∷ [])) (Step 𝓤 H A mem run .pre to-step)
+    asks-step = qed W (‵ (Own κ d u) ∷ ‵ (flft κ q) ∷ []) ∵ nothing ! $ move ! (1 ∷ 0 ∷ []) $ fjoin ! $ nothing ! $ move ! (2 ∷ 0 ∷ []) $ join ! $ join ! $ frame ! $ done !
 
-    abbrev pub Stands : Stepped → Type 0
-    Stands r = saidStepped r ≡ briefStepped (stepOf d)
+    step-said : (r : Stepped) → ent 𝓤 (ensured 𝓤 H A step.ended (step.clauses 𝓤 H A mem run) (κ, tt) (d, tt) tt r) (fact 𝓤 (Tells d r))
+    step-said r = exE 𝓤 _ (λ ws. snd∗ 𝓤 (sem 𝓤 H A (lasts step.ended (κ, tt) (d, tt) ws)) (fact 𝓤 (Tells d r)))
 
-    step-said : (r : Stepped) → ent 𝓤 (ensured 𝓤 H A step.ended (step.clauses 𝓤 H A mem run) (κ, tt) (d, tt) tt r) (fact 𝓤 (Stands r))
-    step-said r = exE 𝓤 _ (λ ws. snd∗ 𝓤 (sem 𝓤 H A (lasts step.ended (κ, tt) (d, tt) ws)) (fact 𝓤 (Stands r)))
-
-    pub gives-step : (u′ : Val) → ent 𝓤 (Step 𝓤 H A mem run .post to-step u′) (H .⇛ (ex 𝓤 (λ (r : Stepped). guard 𝓤 (Stands r) (sep 𝓤 (A .lft κ q) (sem 𝓤 H A (S.the-row .own r (u′ ∷ [])))))))
+    pub gives-step : (u′ : Val) → ent 𝓤 (Step 𝓤 H A mem run .post to-step u′) (H .⇛ (ex 𝓤 (λ (r : Stepped). guard 𝓤 (Tells d r) (sep 𝓤 (A .lft κ q) (sem 𝓤 H A (S.the-row .own r (u′ ∷ [])))))))
     gives-step u′ =
         qed W (raw (Step 𝓤 H A mem run .post to-step u′) ∷ []) ∵ updating ! $
         use1 W (later (some (λ (r : Stepped). ((‵ (flft κ q) ⊛ ‵ ftrue) ⊛ ‵ (S.the-row .own r (u′ ∷ []))) ⊛ raw (ensured 𝓤 H A step.ended (step.clauses 𝓤 H A mem run) (κ, tt) (d, tt) tt r)))) (id⊢ 𝓤 _) $ await ! tt $ pick ! (λ r.
-        split ! $ move ! (1 ∷ []) $ use1 W (raw (fact 𝓤 (Stands r))) (step-said r) $ heard ! (Stands r) (λ e. split ! $ split ! $ at-once ! $
-        show ! (λ (t : Stepped). guard 𝓤 (Stands t) (sep 𝓤 (A .lft κ q) (sem 𝓤 H A (S.the-row .own t (u′ ∷ []))))) r $ check ! e $ keep ! (0 ∷ 2 ∷ []) $ done !))
+        split ! $ move ! (1 ∷ []) $ use1 W (raw (fact 𝓤 (Tells d r))) (step-said r) $ heard ! (Tells d r) (λ e. split ! $ split ! $ at-once ! $
+        show ! (λ (t : Stepped). guard 𝓤 (Tells d t) (sep 𝓤 (A .lft κ q) (sem 𝓤 H A (S.the-row .own t (u′ ∷ []))))) r $ check ! e $ keep ! (0 ∷ 2 ∷ []) $ done !))
 
     abbrev pub to-at : At 𝓤 H A mem run .Ghost
     to-at = (((κ, tt), (q, tt), tt, (d, tt), (u ∷ [], tt)), tt)
 
-    pub asks-at : ent 𝓤 (⋆ 𝓤 H A (‵ (Own d u) ∷ ‵ (flft κ q) ∷ [])) (At 𝓤 H A mem run .pre to-at)
-    asks-at = qed W (‵ (Own d u) ∷ ‵ (flft κ q) ∷ []) ∵ nothing ! $ move ! (1 ∷ 0 ∷ []) $ fjoin ! $ nothing ! $ move ! (2 ∷ 0 ∷ []) $ join ! $ join ! $ frame ! $ done !
+    pub asks-at : ent 𝓤 (⋆ 𝓤 H A (‵ (Own κ d u) ∷ ‵ (flft κ q) ∷ [])) (At 𝓤 H A mem run .pre to-at)
+    asks-at = qed W (‵ (Own κ d u) ∷ ‵ (flft κ q) ∷ []) ∵ nothing ! $ move ! (1 ∷ 0 ∷ []) $ fjoin ! $ nothing ! $ move ! (2 ∷ 0 ∷ []) $ join ! $ join ! $ frame ! $ done !
 
     at-said : (n : ℕ) → ent 𝓤 (ensured 𝓤 H A at.ended (at.clauses 𝓤 H A mem run) (κ, tt) (d, tt) tt n) (fact 𝓤 (n ≡ d .at))
     at-said n = exE 𝓤 _ (λ ws. snd∗ 𝓤 (sem 𝓤 H A (lasts at.ended (κ, tt) (d, tt) ws)) (fact 𝓤 (n ≡ d .at)))
@@ -177,9 +182,6 @@ module _ {M : Type 1} (𝓤 : URA M) (H : Heap 𝓤) (A : Atoms 𝓤) (W : Given
 
   -- ---- `next`, on the walker d in the local at l. It is lent for a lifetime that is made for the call, within the file's: half of the file's token goes into it, the other half stands for the file
   module _ (d : Walker) (l : ℕ) where
-    abbrev pub Cell : Val → Fml
-    Cell u = fat fullShare (T′.mir erased) l 0 u
-
     module _ (a : ℕ) (γ : GName) where
       abbrev lent : RefT Walker
       lent = record { ptr = (l, 0); name = γ; now = d }
@@ -194,10 +196,10 @@ module _ {M : Type 1} (𝓤 : URA M) (H : Heap 𝓤) (A : Atoms 𝓤) (W : Given
       abbrev pub Back : SProp 𝓤
       Back = sep 𝓤 (A .lent (a ∷ κ) (Body (memory (B κ)) l 0 γ)) (wand 𝓤 (A .lft (a ∷ []) (PosShare·left q)) (A .lft (a ∷ []) fullShare))
 
-    pub lends : (u : Val) → ent 𝓤 (⋆ 𝓤 H A (‵ (Cell u) ∷ ‵ (Own d u) ∷ ‵ (flft κ q) ∷ [])) (H .⇛ (ex 𝓤 (λ (a : ℕ). ex 𝓤 (λ (γ : GName). sep 𝓤 (Next 𝓤 H A mem run .pre (to-next a γ)) (Back a γ)))))
+    pub lends : (u : Val) → ent 𝓤 (⋆ 𝓤 H A (‵ (Cell l u) ∷ ‵ (Own κ d u) ∷ ‵ (flft κ q) ∷ [])) (H .⇛ (ex 𝓤 (λ (a : ℕ). ex 𝓤 (λ (γ : GName). sep 𝓤 (Next 𝓤 H A mem run .pre (to-next a γ)) (Back a γ)))))
     unfolding partOf
     lends u =
-        qed W (‵ (Cell u) ∷ ‵ (Own d u) ∷ ‵ (flft κ q) ∷ []) ∵ updating ! $ use1 W (‵ (cellAt fullShare (B κ .mir) (u ∷ []) l 0)) (W .laws .at-raw fullShare (T′.mir erased) l 0 u) $
+        qed W (‵ (Cell l u) ∷ ‵ (Own κ d u) ∷ ‵ (flft κ q) ∷ []) ∵ updating ! $ use1 W (‵ (cellAt fullShare (B κ .mir) (u ∷ []) l 0)) (W .laws .at-raw fullShare (T′.mir erased) l 0 u) $
         fjoin ! $ fpack ! (List Val) (λ us. fsep (cellAt fullShare (B κ .mir) us l 0) (B κ .own d us)) (u ∷ []) $ lft-new ! tt (λ a. move ! (1 ∷ []) $
         use1 W (later (some (λ (γ : GName). ‵ (MutRef (named 0) (a ∷ κ) (B κ) .own (lent a γ) (vptr l 0 ∷ [])) ⊛ ‵ (flent (a ∷ κ) (Body (memory (B κ)) l 0 γ))))) (lends-ref 𝓤 H A W (B κ) (named 0) (a ∷ κ) d l 0) $
         await ! tt $ pick ! (λ γ. split ! $
@@ -214,7 +216,7 @@ module _ {M : Type 1} (𝓤 : URA M) (H : Heap 𝓤) (A : Atoms 𝓤) (W : Given
 
     -- the answer, and the local again, with the walker behind its statement
     abbrev pub Got : Val → Stepped → SProp 𝓤
-    Got u r = guard 𝓤 (Stands d u r) (sep 𝓤 (sem 𝓤 H A (S.the-row .own r (u ∷ []))) (sep 𝓤 (sem 𝓤 H A (Cell (T′.lowered (behind d)))) (sep 𝓤 (sem 𝓤 H A (Own (behind d) (T′.lowered (behind d)))) (A .lft κ q))))
+    Got u r = guard 𝓤 (Tells d r) (sep 𝓤 (sem 𝓤 H A (S.the-row .own r (u ∷ []))) (sep 𝓤 (sem 𝓤 H A (Cell l (T′.lowered (behind d)))) (sep 𝓤 (sem 𝓤 H A (Own κ (behind d) (T′.lowered (behind d)))) (A .lft κ q))))
 
     pub takes-back : (a : ℕ) (γ : GName) (u : Val) → ent 𝓤 (⋆ 𝓤 H A (raw (Next 𝓤 H A mem run .post (to-next a γ) u) ∷ raw (Back a γ) ∷ [])) (H .⇛ (ex 𝓤 (Got u)))
     unfolding partOf
@@ -233,5 +235,5 @@ module _ {M : Type 1} (𝓤 : URA M) (H : Heap 𝓤) (A : Atoms 𝓤) (W : Given
         -- [the end of both; the way back; the file's token; nothing; the answer; the last value]
         move ! (0 ∷ 1 ∷ 5 ∷ []) $ use3 W (later (‵ (memory (B κ) .lies (behind d) l 0))) (ref-back 𝓤 H A W (B κ) (a ∷ κ) γ (behind d) l 0) $ await ! tt $ fpick ! (λ vs. fsplit ! $
         spelt ! (B κ) (Is (B κ)) (shows 𝓤 H A (B κ)) (struct.vals (T.the-type (record { mir = named 1; lft = κ })) (T′.the-laws (record { mir = named 1; lft = κ }))) (struct.tells (T.the-type (record { mir = named 1; lft = κ })) (T′.the-laws (record { mir = named 1; lft = κ })))
-        fullShare (behind d) vs l 0 $ use1 W (‵ (Cell (T′.lowered (behind d)))) (W .laws .raw-at fullShare (T′.mir erased) l 0 (T′.lowered (behind d))) $
+        fullShare (behind d) vs l 0 $ use1 W (‵ (Cell l (T′.lowered (behind d)))) (W .laws .raw-at fullShare (T′.mir erased) l 0 (T′.lowered (behind d))) $
         at-once ! $ show ! (Got u) r $ check ! (e .answer) $ keep ! (4 ∷ 0 ∷ 1 ∷ 2 ∷ []) $ done !))))
