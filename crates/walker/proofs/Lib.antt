@@ -1,4 +1,5 @@
 pub mod Stepping
+pub mod Contracts
 pub mod OneAnswer
 pub mod Holding
 pub mod Tallies

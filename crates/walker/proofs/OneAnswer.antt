@@ -1,25 +1,15 @@
 -- Each public function has one possible answer for each input, and leaves one content in the columns that it fills: two that its contract allows are equal.
-use Prim.Native.Nat.{ℕ}
 use mathlib.Core.Path.{_≡_, refl, sym, ap, _∙_}
-use mathlib.Core.List.{List}
-use lib.IntN.{ℤ}
 use denote.Ref.{now}
 use Rattle.definitions.specs.Refusal.{Refusal, refusal}
-use Rattle.definitions.specs.Row as Row
-use Rattle.definitions.specs.Row.{Term}
-use Rattle.definitions.specs.Stepping as answer
-use Rattle.definitions.specs.Table.{Outcome}
 use Rattle.reader.specs.Brief.{LineBrief, lineBrief}
-use Rattle.reader.specs.FillsTerms.{FillsTerms}
-use Rattle.reader.specs.declared.terms.FilledTerms.{FilledTerms}
 use Rattle.reader.proofs.Sums.{never}
 use Rattle.reader.proofs.FillTerms.{said-terms}
 use Rattle.reader.proofs.OneAnswer.{said-counted}
-use Rattle.walker.specs.Said.{saidStepped, briefStepped}
-use Rattle.walker.specs.Walks.{Nexts}
-use Rattle.walker.specs.declared.held.Walker.{Walker}
+use Rattle.walker.specs.Said.{saidStepped}
 use Rattle.walker.specs.declared.steps.Stepped.{Stepped}
 use Rattle.walker.specs.declared.steps.Stepped.the-variants.{End, Refused, Line}
+use Rattle.walker.proofs.Contracts.{new-states, at-states, step-states, moved-states, next-states, fill-states}
 use Rattle.walker.proofs.steps.step_at.Reads as step-at
 use Rattle.walker.proofs.steps.offset_after.Reads as offset-after
 use Rattle.walker.proofs.steps.fill_at.Reads as fill-at
@@ -63,23 +53,26 @@ fill-at-one κs a r r' s s' p q =
 pub statement-at-one : (κs : _) (a : _) (r r' : _) (s s' : _) → statement-at.Post κs a r s → statement-at.Post κs a r' s' → r ≡ r'
 statement-at-one κs a r r' s s' p q = said-stepped r r' (p ∙ sym q)
 
--- ---- the functions over the struct, by what their contracts say: `new` and `moved`, `at`, `step`, `next`, `fill`
+-- ---- the functions over the struct: `new`, `at`, `step`, `moved`, `next`, which leaves one walker, and `fill`, which leaves one content of each column
 
-pub walker-one : (v w w' : Walker) → w ≡ v → w' ≡ v → w ≡ w'
-walker-one v w w' p q = p ∙ sym q
+pub new-one : (κs : _) (a : _) (r r' : _) (s s' : _) → new-states κs a r s .stated → new-states κs a r' s' .stated → r ≡ r'
+new-one κs a r r' s s' p q = p ∙ sym q
 
-pub at-one : (w : Walker) (n n' : ℕ) → n ≡ w .at → n' ≡ w .at → n ≡ n'
-at-one w n n' p q = p ∙ sym q
+pub at-one : (κs : _) (a : _) (r r' : _) (s s' : _) → at-states κs a r s .stated → at-states κs a r' s' .stated → r ≡ r'
+at-one κs a r r' s s' p q = p ∙ sym q
 
-pub step-one : (x : answer.Stepped Row.Line) (r r' : Stepped) → saidStepped r ≡ briefStepped x → saidStepped r' ≡ briefStepped x → r ≡ r'
-step-one x r r' p q = said-stepped r r' (p ∙ sym q)
+pub step-one : (κs : _) (a : _) (r r' : _) (s s' : _) → step-states κs a r s .stated → step-states κs a r' s' .stated → r ≡ r'
+step-one κs a r r' s s' p q = said-stepped r r' (p ∙ sym q)
 
-pub next-one : (w : Walker) (r r' : Stepped) (v v' : Walker) → Nexts w r v → Nexts w r' v' → (r ≡ r') × (v ≡ v')
-next-one w r r' v v' p q = (said-stepped r r' (p .answer ∙ sym (q .answer)), p .after ∙ sym (q .after))
+pub moved-one : (κs : _) (a : _) (r r' : _) (s s' : _) → moved-states κs a r s .stated → moved-states κs a r' s' .stated → r ≡ r'
+moved-one κs a r r' s s' p q = p ∙ sym q
 
-pub fill-one : (x : Outcome (List Term)) (w₀ : List ℤ) (l₀ : List ℕ) (r r' : FilledTerms) (w w' : List ℤ) (l l' : List ℕ) → FillsTerms x w₀ l₀ r w l → FillsTerms x w₀ l₀ r' w' l'
-    → (r ≡ r') × (w ≡ w') × (l ≡ l')
-fill-one x w₀ l₀ r r' w w' l l' p q =
+pub next-one : (κs : _) (a : _) (r r' : _) (s s' : _) → next-states κs a r s .stated → next-states κs a r' s' .stated → (r ≡ r') × (now (s .0) ≡ now (s' .0))
+next-one κs a r r' s s' p q = (said-stepped r r' (p .answer ∙ sym (q .answer)), p .after ∙ sym (q .after))
+
+pub fill-one : (κs : _) (a : _) (r r' : _) (s s' : _) → fill-states κs a r s .stated → fill-states κs a r' s' .stated
+    → (r ≡ r') × (now (s .1 .0) ≡ now (s' .1 .0)) × (now (s .1 .1 .0) ≡ now (s' .1 .1 .0))
+fill-one κs a r r' s s' p q =
     (said-terms r r' (p .answer ∙ sym (q .answer)), p .filled .weights ∙ sym (q .filled .weights), p .filled .literals ∙ sym (q .filled .literals))
 
 pub count-steps-one : (κs : _) (a : _) (r r' : _) (s s' : _) → count-steps.Post κs a r s → count-steps.Post κs a r' s' → r ≡ r'

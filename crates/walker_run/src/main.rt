@@ -1,0 +1,178 @@
+// Runs the walker's own functions on two small files: a walker is made, looked ahead with, stepped twice, asked where it stands, moved, and its statement's terms are filled. Each function with a local
+// that holds the file is proved by a walk of its own, so there are three, and each does nothing but call; all else is covered. tests/vectors/walker_stdout.py makes stdout. Assumes nothing but what libc
+// says of itself.
+use definitions::Options;
+use reader::FilledTerms;
+use walker::Stepped;
+ghost use mathlib.Core.Path.{_≡_};
+ghost use Rattle.definitions.specs.Stepping.{stepAt, termsAtStep};
+ghost use Rattle.reader.specs.FillsTerms.{FillsTerms};
+ghost use Rattle.walker.specs.Said.{saidStepped, briefStepped};
+ghost use Rattle.walker_run.specs.Stands.{standsAfter};
+
+// ---- the functions over a walker
+
+// Two statements in a row, and where the walker then stands.
+struct Walked {
+    first: Stepped,
+    second: Stepped,
+    at: usize,
+}
+
+fn walk_two(file: &[u8], options: Options) -> Walked
+    ensures { λ r. ⌜ (saidStepped (r .first) ≡ briefStepped (stepAt options (now (file .entry)) 0)) × (saidStepped (r .second) ≡ briefStepped (stepAt options (now (file .entry)) (standsAfter options (now (file .entry)) 1))) × (r .at ≡ standsAfter options (now (file .entry)) 2) ⌝ }
+{
+    let mut w = walker::new(file, options);
+    let first = walker::next(&mut w);
+    let second = walker::next(&mut w);
+    let at = walker::at(w);
+    Walked { first, second, at }
+}
+
+// The statement at an offset; the walker is moved there, and stays.
+fn look_ahead(file: &[u8], options: Options, at: usize) -> Stepped
+    ensures { λ r. ⌜ saidStepped r ≡ briefStepped (stepAt options (now (file .entry)) at) ⌝ }
+{
+    walker::step(walker::moved(walker::new(file, options), at))
+}
+
+// The terms of the statement at an offset.
+fn terms_at(
+    file: &[u8],
+    options: Options,
+    at: usize,
+    weights: &mut [i64],
+    literals: &mut [u32],
+) -> FilledTerms
+    ensures { λ r. ⌜ FillsTerms (termsAtStep options (now (file .entry)) at (now (weights .entry)) (now (literals .entry))) (now (weights .entry)) (now (literals .entry)) r (now (weights .exit)) (now (literals .exit)) ⌝ }
+{
+    let w = walker::moved(walker::new(file, options), at);
+    walker::fill(w, weights, literals)
+}
+
+// ---- what is written
+
+fn say(s: &[u8]) {
+    io::write_all(libc::STDOUT_FILENO, s);
+}
+
+fn say_count(n: usize) {
+    say(b" ");
+    io::print_decimal(libc::STDOUT_FILENO, n as u64);
+}
+
+fn say_number(z: i64) {
+    if z < 0 {
+        say(b" -");
+    } else {
+        say(b" ");
+    }
+    io::print_decimal(libc::STDOUT_FILENO, numbers::magnitude(z));
+}
+
+fn of_byte(b: u8) -> usize {
+    b as usize
+}
+
+fn of_code(c: u32) -> usize {
+    c as usize
+}
+
+fn show_line(kind: u8, first: usize, count: usize, bound: i64, next: usize) {
+    say(b"kind");
+    say_count(of_byte(kind));
+    say(b" first");
+    say_count(first);
+    say(b" count");
+    say_count(count);
+    say(b" bound");
+    say_number(bound);
+    say(b" next");
+    say_count(next);
+}
+
+fn show_refusal(number: u8, place: usize) {
+    say(b"refused");
+    say_count(of_byte(number));
+    say(b" at");
+    say_count(place);
+}
+
+fn show_step(s: Stepped) {
+    match s {
+        Stepped::End => {
+            say(b"end");
+        }
+        Stepped::Refused { number, place } => {
+            show_refusal(number, place);
+        }
+        Stepped::Line {
+            kind,
+            first,
+            count,
+            bound,
+            next,
+        } => {
+            show_line(kind, first, count, bound, next);
+        }
+    }
+    say(b"\n");
+}
+
+fn show_terms(filled: FilledTerms) {
+    match filled {
+        FilledTerms::Refused { number, place } => {
+            show_refusal(number, place);
+        }
+        FilledTerms::Terms(n) => {
+            say(b"terms");
+            say_count(n);
+        }
+    }
+}
+
+// ---- the files
+
+// The statement at an offset, and its terms into columns of two that hold 7.
+fn show_at(file: &[u8], options: Options, at: usize) {
+    show_step(look_ahead(file, options, at));
+    let mut weights = [7i64; 2];
+    let mut literals = [7u32; 2];
+    show_terms(terms_at(file, options, at, &mut weights, &mut literals));
+    say_number(weights[0]);
+    say_number(weights[1]);
+    say_count(of_code(literals[0]));
+    say_count(of_code(literals[1]));
+    say(b"\n");
+}
+
+// Where the next step is taken.
+fn show_two(file: &[u8], options: Options) -> usize {
+    let seen = walk_two(file, options);
+    let first = seen.first;
+    let second = seen.second;
+    show_step(first);
+    show_step(second);
+    say(b"stands at");
+    say_count(seen.at);
+    say(b"\n");
+    seen.at
+}
+
+fn show_file(file: &[u8], options: Options) {
+    let at = show_two(file, options);
+    show_at(file, options, 0);
+    show_at(file, options, at);
+    show_at(file, options, file.len());
+}
+
+fn main() {
+    let options = Options { first: 1 };
+    show_file(
+        b"* budget\nmin: 3 x1 -2 ~x2 ;\n+1 x1 +1 x2 >= 1 ;\n",
+        options,
+    );
+    show_file(b"2 x3 < 5;\n 1 x0 >= 1;\n", options);
+    show_file(b"1 x1 1 x2 1 x3 = -2;\n1 x1 >= 1", options);
+    show_file(b" \t", options);
+}
