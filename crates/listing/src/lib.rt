@@ -14,7 +14,7 @@ ghost use Rattle.definitions.specs.File.{firstAt, reading};
 ghost use Rattle.definitions.specs.House.{listing};
 ghost use Rattle.listing.specs.ListsFile.{ListsRead, ListsFile};
 
-// Into an output that has room for the lines: their length.
+// Into an output that has room for the lines: their length. So neither call below finds the output full.
 fn list_read(
     file: &[u8],
     first: u32,

@@ -99,7 +99,9 @@ returns-2 c =
     let r = c .before .before .before .before .before .before .before .before .before .before .before .before in
     let e = r .before .before .before .before .before .before .before .before in
     let d = e .before in
-    lists-all (start d .args .first) (text d) (lent d) (out d) _ (measured d) (e .if1 .left) (short d) _ _ _ (r .list-read .ensures)
+    let l = r .list-read .last in
+    let left = table (l .1 .1 .0) (l .1 .1 .1 .0) (l .1 .1 .1 .1 .0) (l .1 .1 .1 .1 .1 .0) (l .1 .1 .1 .1 .1 .1 .0) (l .1 .1 .1 .1 .1 .1 .1 .0) in
+    lists-all (start d .args .first) (text d) (lent d) (out d) _ (measured d) (e .if1 .left) (short d) _ left _ (r .list-read .ensures)
 
 pub list-file-spec : {M : Type 1} → statement M
 list-file-spec =

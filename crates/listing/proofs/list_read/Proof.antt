@@ -1,5 +1,6 @@
 -- `list_read` meets its contract: the refusal, or the lines of the table that was read (proofs/Files.antt).
 use denote.Ref.{now}
+use Rattle.definitions.specs.Table.{Table, table}
 use Rattle.listing.proofs.Files.{refused-lists, refused-fits, read-lists, read-fits}
 use borrow.Author.Needs.{needs}
 use Rattle.listing.proofs.list_read.Statement.{statement}
@@ -10,8 +11,16 @@ module _ (c : tie.After-slice-known9) where
   abbrev read : tie.After-parse-opb-data
   read = c .before .before .before .before .before .before .before .before .before .before
 
+  abbrev left : Table
+  left =
+      let l = read .parse-opb-data .last in
+      table (l .1 .1 .0) (l .1 .1 .1 .0) (l .1 .1 .1 .1 .0) (l .1 .1 .1 .1 .1 .0) (l .1 .1 .1 .1 .1 .1 .0) (l .1 .1 .1 .1 .1 .1 .1 .0)
+
   abbrev start : tie.Start
   start = read .before .before .before .before .before .before .before .before .before .before .before .before .before
+
+  abbrev lent : Table
+  lent = table (now (start .args .kinds)) (now (start .args .firsts)) (now (start .args .counts)) (now (start .args .bounds)) (now (start .args .weights)) (now (start .args .literals))
 
 parse-opb-data-requires : tie.Need-parse-opb-data-requires
 parse-opb-data-requires c κs = search needs
@@ -67,7 +76,7 @@ returns c =
     let n = l .before .before .before in
     let d = n .before .before in
     let s = start d in
-    refused-lists (s .args .first) (now (s .args .file)) _ (now (s .args .out)) _ _ (read d .parse-opb-data .result) (read d .parse-opb-data .ensures) (s .pre) _ _ (n .number .given .1) _
+    refused-lists (s .args .first) (now (s .args .file)) (lent d) (now (s .args .out)) _ (left d) (read d .parse-opb-data .result) (read d .parse-opb-data .ensures) (s .pre) _ _ (n .number .given .1) _
     (rw (c .before .length .given .1) at (l .list-refusal .ensures))
 
 same-length-8 : tie.Need-same-length-8
@@ -97,7 +106,7 @@ returns-2 c =
     let n = l .before .before .before in
     let d = n .before .before in
     let s = start d in
-    refused-fits (s .args .first) (now (s .args .file)) _ (now (s .args .out)) _ _ (read d .parse-opb-data .result) (read d .parse-opb-data .ensures) (s .pre) _ _ (n .number .given .1)
+    refused-fits (s .args .first) (now (s .args .file)) (lent d) (now (s .args .out)) _ (left d) (read d .parse-opb-data .result) (read d .parse-opb-data .ensures) (s .pre) _ _ (n .number .given .1)
     (rw (c .enum-told .given .1) at (l .list-refusal .ensures))
 
 same-length-15 : tie.Need-same-length-15
@@ -127,7 +136,7 @@ returns-3 c =
     let r = l .before .before .before .before .before .before .before .before .before in
     let d = r .before .before in
     let s = start d in
-    read-lists (s .args .first) (now (s .args .file)) _ (now (s .args .out)) _ _ (read d .parse-opb-data .result) (read d .parse-opb-data .ensures) (s .pre) _ _ (r .rows .given .1) _
+    read-lists (s .args .first) (now (s .args .file)) (lent d) (now (s .args .out)) _ (left d) (read d .parse-opb-data .result) (read d .parse-opb-data .ensures) (s .pre) _ _ (r .rows .given .1) _
     (rw (c .before .length2 .given .1) at (l .list-table .ensures))
 
 same-length-22 : tie.Need-same-length-22
@@ -157,7 +166,7 @@ returns-4 c =
     let r = l .before .before .before .before .before .before .before .before .before in
     let d = r .before .before in
     let s = start d in
-    read-fits (s .args .first) (now (s .args .file)) _ (now (s .args .out)) _ _ (read d .parse-opb-data .result) (read d .parse-opb-data .ensures) (s .pre) _ _ (r .rows .given .1) _ _
+    read-fits (s .args .first) (now (s .args .file)) (lent d) (now (s .args .out)) _ (left d) (read d .parse-opb-data .result) (read d .parse-opb-data .ensures) (s .pre) _ _ (r .rows .given .1) _ _
     (rw (c .enum-told2 .given .1) at (l .list-table .ensures))
 
 pub list-read-spec : {M : Type 1} → statement M
