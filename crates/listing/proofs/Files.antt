@@ -1,13 +1,16 @@
--- What was read is listed: a table that was read holds the rows that were read, so its house lines are those of the rows.
+-- What was read is listed: a table that was read holds the rows that were read, so its house lines are those of the rows. The lines are listed where they fit, and nothing is changed where
+-- they do not.
 use mathlib.Core.Path.{_≡_, refl, sym, ap, _∙_}
-use mathlib.Core.Bool.{Bool, true, false}
+use mathlib.Core.Bool.{true, false}
 use mathlib.Core.List.{List}
 use Prim.Native.Nat.{ℕ, _+_, _≤_, _<_}
 use native.Mathlib.Omega.{arith}
-use borrow.Author.Tests.{leb-true, leb-false}
+use borrow.Author.Tests.{le-leb, lt-leb}
 use lib.Dec.{leb}
 use lib.ListN.{length, take}
-use Rattle.definitions.specs.Refusal.{refusal, needed, accept}
+use Rattle.definitions.specs.Lists.{over}
+use Rattle.definitions.specs.Limits.{neededLimit}
+use Rattle.definitions.specs.Refusal.{refusal, needed}
 use Rattle.definitions.specs.Row.{Line}
 use Rattle.definitions.specs.Table.{Table, Outcome, refused, accepted, entries, filled, Totals, totalsOf, allTerms, counted, after, rowByRow}
 use Rattle.definitions.specs.File.{firstAt, file, reading}
@@ -17,18 +20,16 @@ use Rattle.definitions.proofs.Tables.{filled-listed}
 use Rattle.definitions.proofs.ReadRows.{statements-good, good-indexed, good-numbered}
 use Rattle.definitions.proofs.FileAnswers.{file-accepted}
 use Rattle.definitions.proofs.Columns.{fitted-accepted}
-use Rattle.definitions.proofs.Puts.{put-at-fits, put-in-fits, put-at-full, put-in-full}
-use Rattle.numbers.specs.declared.Put.{Put}
+use Rattle.definitions.proofs.Puts.{put-done, put-full}
 use Rattle.numbers.specs.declared.Put.the-variants.{Done, Full}
 use Rattle.numbers.specs.Print.{Prints}
 use Rattle.reader.specs.declared.file.Answer.{Answer}
 use Rattle.reader.specs.declared.file.Answer.the-variants as answer
 use Rattle.reader.specs.Reads.{Reads}
 use Rattle.reader.specs.Said.{saidAnswer}
-use Rattle.house.specs.declared.Listed as code
 use Rattle.house.specs.declared.Listed.the-variants as listed
 use Rattle.house.specs.Lists.{Lists}
-use Rattle.listing.specs.ListsFile.{ListsFile}
+use Rattle.listing.specs.ListsFile.{fileListing, tableAfter, ListsFile, ListsRead}
 
 -- ---- what an answer was counted of
 
@@ -47,41 +48,15 @@ accepted-count n m (accepted ls) e =
     let q : totalsOf n m ≡ totalsOf (length ls) (length (allTerms ls)) = cc in
     record { lines = ls; are = refl; count = ap (λ (z : Totals). z .rows) q }
 
--- ---- a text of the table into an output
+-- ---- a text that fits the output
 
--- where the definition says that it fits
-module _ (text o o′ : List ℕ) where
-  fitted-done : (n : ℕ) → accepted n ≡ lengthOf (fittedText (length o) text) → o′ ≡ outputAfter (fittedText (length o) text) o → Prints text 0 o (Done n) o′
-  unfolding outputAfter
-  fitted-done n a q = by (leb (length text) (length o)) refl
-    where
-      zero-on : 0 + length text ≡ length text
-      zero-on = omega arith
-
-      by : (b : Bool) → leb (length text) (length o) ≡ b → Prints text 0 o (Done n) o′
-      by true e =
-          let h : 0 + length text ≤ length o = omega (arith, leb-true (length text) (length o) e) in
-          let f : fittedText (length o) text ≡ accepted text = rw e in
-          let l : accepted n ≡ accepted (length text) = a ∙ ap lengthOf f in
-          let k : n ≡ 0 + length text = cc zero-on in
-          record { answer = ap accept k ∙ sym (put-at-fits text 0 o h); after = q ∙ ap (λ (x : Outcome (List ℕ)). outputAfter x o) f ∙ rw (← zero-on) (sym (put-in-fits text 0 o h)) }
-      by false e =
-          let f : accepted n ≡ refused (refusal 14 (needed (length text))) = a ∙ rw e in
-          let z : _≡_ {A = ℕ} 0 1 = cc in absurd (omega arith)
-
-  fitted-full : (n p : ℕ) → refused (refusal n p) ≡ lengthOf (fittedText (length o) text) → o′ ≡ outputAfter (fittedText (length o) text) o → Prints text 0 o Full o′
-  unfolding outputAfter
-  fitted-full n p a q = by (leb (length text) (length o)) refl
-    where
-      by : (b : Bool) → leb (length text) (length o) ≡ b → Prints text 0 o Full o′
-      by true e =
-          let f : refused (refusal n p) ≡ accepted (length text) = a ∙ rw e in
-          let z : _≡_ {A = ℕ} 0 1 = cc in absurd (omega arith)
-      by false e =
-          let h : length o < 0 + length text = omega (arith, leb-false (length text) (length o) e) in
-          record { answer = sym (put-at-full text 0 o h); after = q ∙ rw e (sym (put-in-full text 0 o h)) }
+fitted-is : (text o : List ℕ) → length text ≤ length o → fittedText (length o) text ≡ accepted text
+fitted-is text o h = rw (le-leb (length text) (length o) h)
 
 module _ (first : ℕ) (s : List ℕ) (t : Table) where
+  abbrev text : List ℕ
+  text = listing first (reading (firstAt first) s t)
+
   -- ---- "a table that was read" is again the rows that were read, and each has its file numbers: no 11, no 5
   table-back : (ls : List Line) → reading (firstAt first) s t ≡ accepted ls → rowByRow (listedEntry first (filled ls t)) 0 (take (length ls) (entries (filled ls t))) ≡ accepted ls
   unfolding reading
@@ -91,13 +66,30 @@ module _ (first : ℕ) (s : List ℕ) (t : Table) where
       let good = statements-good (firstAt first) s ls (g .end) (g .found) in
       filled-listed first ls t (f .terms) (good-indexed first ls good) (good-numbered first ls good)
 
-  module _ (o o′ : List ℕ) (t′ : Table) (a : Answer) (reads : Reads (firstAt first) s t a t′) where
-    pub refused-lists : (n p : ℕ) (r : Put) → a ≡ answer.Refused n p → Prints (refusedLine (refusal n p)) 0 o r o′ → ListsFile first s t o r t′ o′
-    unfolding listing
-    refused-lists n p r q prints =
-        let e = refused-count n p (reading (firstAt first) s t) (sym (ap saidAnswer q) ∙ reads .answer) in
-        record { prints = rw e prints; after = reads .after }
+  module _ (o o′ : List ℕ) (t′ : Table) (a : Answer) (reads : Reads (firstAt first) s t a t′) (room : length text ≤ length o) where
+    -- ---- a refusal
+    module _ (n p : ℕ) (q : a ≡ answer.Refused n p) where
+      text-is : text ≡ refusedLine (refusal n p)
+      unfolding listing
+      text-is = rw (refused-count n p (reading (firstAt first) s t) (sym (ap saidAnswer q) ∙ reads .answer))
 
+      line-room : 0 + length (refusedLine (refusal n p)) ≤ length o
+      line-room = omega (arith, ap length text-is)
+
+      pub refused-lists : (k : ℕ) → Prints (refusedLine (refusal n p)) 0 o (Done k) o′ → ListsRead first s t o k t′ o′
+      refused-lists k prints =
+          let d = put-done (refusedLine (refusal n p)) 0 o line-room (prints .answer) (prints .after) in
+          let z : 0 + length (refusedLine (refusal n p)) ≡ length (refusedLine (refusal n p)) = omega arith in
+          record {
+            answer = d .place ∙ z ∙ ap length (sym text-is);
+            output = d .after ∙ rw (z, text-is);
+            tables = reads .after;
+          }
+
+      pub refused-fits {ℓ} : {X : Type ℓ} → Prints (refusedLine (refusal n p)) 0 o Full o′ → X
+      refused-fits prints = put-full (refusedLine (refusal n p)) 0 o line-room (prints .answer)
+
+    -- ---- a table
     module _ (n m : ℕ) (q : a ≡ answer.Read n m) where
       counts : Counts n (reading (firstAt first) s t)
       counts = accepted-count n m (reading (firstAt first) s t) (sym (ap saidAnswer q) ∙ reads .answer)
@@ -106,24 +98,44 @@ module _ (first : ℕ) (s : List ℕ) (t : Table) where
       unfolding after
       table-is = reads .after ∙ ap (λ (x : Outcome (List Line)). after x t) (counts .are)
 
-      -- the table's listing is that of the rows
-      outcome : listingTable first n t′ (length o) ≡ fittedText (length o) (listing first (reading (firstAt first) s t))
+      -- the table's listing is that of the rows, and it fits
+      outcome : listingTable first n t′ (length o) ≡ accepted text
       unfolding listingTable
       outcome =
           ap (λ (x : Table). listingTable first n x (length o)) table-is
           ∙ ap (λ (k : ℕ). listingTable first k (filled (counts .lines) t) (length o)) (counts .count)
-          ∙ rw (table-back (counts .lines) (counts .are), counts .are)
+          ∙ rw (table-back (counts .lines) (counts .are), ← counts .are) (fitted-is text o room)
 
-      pub read-lists : (k : ℕ) → Lists first n t′ o (listed.Listed k) o′ → ListsFile first s t o (Done k) t′ o′
+      pub read-lists : (k : ℕ) → Lists first n t′ o (listed.Listed k) o′ → ListsRead first s t o k t′ o′
+      unfolding outputAfter
       read-lists k l =
+          let e : accepted k ≡ accepted (length text) = l .answer ∙ ap lengthOf outcome in
           record {
-            prints = fitted-done (listing first (reading (firstAt first) s t)) o o′ k (l .answer ∙ ap lengthOf outcome) (l .after ∙ ap (λ (x : Outcome (List ℕ)). outputAfter x o) outcome);
-            after = reads .after;
+            answer = cc;
+            output = l .after ∙ ap (λ (x : Outcome (List ℕ)). outputAfter x o) outcome;
+            tables = reads .after;
           }
 
-      pub read-full : (k p : ℕ) → Lists first n t′ o (listed.Refused k p) o′ → ListsFile first s t o Full t′ o′
-      read-full k p l =
-          record {
-            prints = fitted-full (listing first (reading (firstAt first) s t)) o o′ k p (l .answer ∙ ap lengthOf outcome) (l .after ∙ ap (λ (x : Outcome (List ℕ)). outputAfter x o) outcome);
-            after = reads .after;
-          }
+      pub read-fits {ℓ} : {X : Type ℓ} (k p : ℕ) → Lists first n t′ o (listed.Refused k p) o′ → X
+      read-fits k p l =
+          let e : refused (refusal k p) ≡ accepted (length text) = l .answer ∙ ap lengthOf outcome in
+          let z : _≡_ {A = ℕ} 0 1 = cc in absurd (omega arith)
+
+  -- ---- the length was measured first: w is needed
+  module _ (o : List ℕ) (w : ℕ) (e : w ≡ needed (length text)) where
+    pub lists-full : length o < w → ListsFile first s t o (listed.Refused 14 w) t o
+    unfolding fileListing outputAfter
+    lists-full h =
+        let f : length o < length text = unfold needed in omega (arith, e) in
+        let l = lt-leb (length text) (length o) f in
+        record { answer = rw (l, e); output = rw l; tables = rw l }
+
+    module _ (h : w ≤ length o) (g : length o < neededLimit) where
+      pub lists-room : length text ≤ length o
+      lists-room = unfold needed in omega (arith, e)
+
+      pub lists-all : (k : ℕ) (t′ : Table) (o′ : List ℕ) → ListsRead first s t o k t′ o′ → ListsFile first s t o (listed.Listed k) t′ o′
+      unfolding fileListing outputAfter
+      lists-all k t′ o′ r =
+          let l = le-leb (length text) (length o) lists-room in
+          record { answer = rw l (ap accepted (r .answer)); output = rw l (r .output); tables = rw l (r .tables) }

@@ -1,2 +1,6 @@
+pub mod Numbered
+pub mod SumLengths
+pub mod LineLengths
+pub mod FileLengths
 pub mod Files
 pub mod OneAnswer

@@ -2,7 +2,7 @@
 use mathlib.Core.Path.{_≡_, sym, _∙_}
 use denote.Ref.{now}
 use Rattle.definitions.specs.Table.{table}
-use Rattle.numbers.proofs.OneAnswer.{put-one}
+use Rattle.house.proofs.OneAnswer.{said-one}
 use Rattle.listing.proofs.list_file.Reads as list-file
 
 pub list-file-one : (κs : _) (a : _) (r r' : _) (s s' : _) → list-file.Post κs a r s → list-file.Post κs a r' s'
@@ -11,4 +11,4 @@ pub list-file-one : (κs : _) (a : _) (r r' : _) (s s' : _) → list-file.Post �
     ≡ table (now (s' .1 .1 .0)) (now (s' .1 .1 .1 .0)) (now (s' .1 .1 .1 .1 .0)) (now (s' .1 .1 .1 .1 .1 .0)) (now (s' .1 .1 .1 .1 .1 .1 .0)) (now (s' .1 .1 .1 .1 .1 .1 .1 .0)))
     × (now (s .1 .1 .1 .1 .1 .1 .1 .1 .0) ≡ now (s' .1 .1 .1 .1 .1 .1 .1 .1 .0))
 list-file-one κs a r r' s s' p q =
-    (put-one r r' (p .prints .answer ∙ sym (q .prints .answer)), p .after ∙ sym (q .after), p .prints .after ∙ sym (q .prints .after))
+    (said-one r r' (p .answer ∙ sym (q .answer)), p .tables ∙ sym (q .tables), p .output ∙ sym (q .output))

@@ -1,14 +1,21 @@
 // A file's house lines (01, "Examples on each side"): the file is read into lent columns, and what was read, or the refusal, is listed into a lent output. All of
-// the listing program but reading its input and printing its output. specs/ListsFile.antt says what is promised. Assumes nothing.
+// the listing program but reading its input and printing its output. The lines are measured first (measure.rt), so that a refused call changes nothing.
+// specs/ListsFile.antt says what is promised. Assumes nothing.
+mod measure;
+
 use definitions::Options;
 use house::Listed;
 use numbers::Put;
 use reader::Answer;
+ghost use Prim.Native.Nat.{_≤_};
+ghost use lib.ListN.{length};
 ghost use Rattle.definitions.specs.Table.{table};
-ghost use Rattle.listing.specs.ListsFile.{ListsFile};
+ghost use Rattle.definitions.specs.File.{firstAt, reading};
+ghost use Rattle.definitions.specs.House.{listing};
+ghost use Rattle.listing.specs.ListsFile.{ListsRead, ListsFile};
 
-// The length of the lines, or no room for them.
-pub fn list_file(
+// Into an output that has room for the lines: their length. So neither call below finds the output full.
+fn list_read(
     file: &[u8],
     first: u32,
     kinds: &mut [u8],
@@ -18,8 +25,9 @@ pub fn list_file(
     weights: &mut [i64],
     literals: &mut [u32],
     out: &mut [u8],
-) -> Put
-    ensures { λ r. ⌜ ListsFile first (now (file .entry)) (table (now (kinds .entry)) (now (firsts .entry)) (now (counts .entry)) (now (bounds .entry)) (now (weights .entry)) (now (literals .entry))) (now (out .entry)) r
+) -> usize
+    requires { ⌜ length (listing first (reading (firstAt first) (now file) (table (now kinds) (now firsts) (now counts) (now bounds) (now weights) (now literals)))) ≤ length (now out) ⌝ }
+    ensures { λ r. ⌜ ListsRead first (now (file .entry)) (table (now (kinds .entry)) (now (firsts .entry)) (now (counts .entry)) (now (bounds .entry)) (now (weights .entry)) (now (literals .entry))) (now (out .entry)) r
         (table (now (kinds .exit)) (now (firsts .exit)) (now (counts .exit)) (now (bounds .exit)) (now (weights .exit)) (now (literals .exit))) (now (out .exit)) ⌝ }
 {
     let options = Options { first };
@@ -33,7 +41,12 @@ pub fn list_file(
         weights,
         literals,
     ) {
-        Answer::Refused { number, place } => house::list_refusal(number, place as u64, out),
+        Answer::Refused { number, place } => {
+            match house::list_refusal(number, place as u64, out) {
+                Put::Done(length) => length,
+                Put::Full => 0,
+            }
+        }
         Answer::Read { rows, terms: _ } => {
             match house::list_table(
                 kinds,
@@ -46,12 +59,49 @@ pub fn list_file(
                 first,
                 out,
             ) {
-                Listed::Listed(length) => Put::Done(length),
+                Listed::Listed(length) => length,
                 Listed::Refused {
                     number: _,
                     place: _,
-                } => Put::Full,
+                } => 0,
             }
         }
     }
+}
+
+// 14 with the length needed, or the length of the lines.
+pub fn list_file(
+    file: &[u8],
+    first: u32,
+    kinds: &mut [u8],
+    firsts: &mut [usize],
+    counts: &mut [usize],
+    bounds: &mut [i64],
+    weights: &mut [i64],
+    literals: &mut [u32],
+    out: &mut [u8],
+) -> Listed
+    ensures { λ r. ⌜ ListsFile first (now (file .entry)) (table (now (kinds .entry)) (now (firsts .entry)) (now (counts .entry)) (now (bounds .entry)) (now (weights .entry)) (now (literals .entry))) (now (out .entry)) r
+        (table (now (kinds .exit)) (now (firsts .exit)) (now (counts .exit)) (now (bounds .exit)) (now (weights .exit)) (now (literals .exit))) (now (out .exit)) ⌝ }
+{
+    let row_room = columns::row_room(kinds, firsts, counts, bounds);
+    let term_room = columns::term_room(weights, literals);
+    let length = measure::listing_length(file, Options { first }, row_room, term_room);
+    if length > out.len() as u64 {
+        return Listed::Refused {
+            number: 14,
+            place: length,
+        };
+    }
+    Listed::Listed(list_read(
+        file,
+        first,
+        kinds,
+        firsts,
+        counts,
+        bounds,
+        weights,
+        literals,
+        out,
+    ))
 }

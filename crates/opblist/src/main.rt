@@ -1,5 +1,6 @@
 // The listing program (01, "Examples on each side"): an OPB file on standard input, its house lines on standard output. All it does itself is to read and to
 // print; `listing::list_file` does the work, and its contract says which bytes are printed. What cannot be read or printed is said on standard error.
+use house::Listed;
 use numbers::Put;
 use streams::Input;
 
@@ -11,7 +12,7 @@ fn list(file: &[u8], out: &mut [u8]) -> Put {
     let mut bounds = [0i64; 4096];
     let mut weights = [0i64; 8192];
     let mut literals = [0u32; 8192];
-    listing::list_file(
+    match listing::list_file(
         file,
         1,
         &mut kinds,
@@ -21,7 +22,13 @@ fn list(file: &[u8], out: &mut [u8]) -> Put {
         &mut weights,
         &mut literals,
         out,
-    )
+    ) {
+        Listed::Listed(length) => Put::Done(length),
+        Listed::Refused {
+            number: _,
+            place: _,
+        } => Put::Full,
+    }
 }
 
 // What was put into `out`, or why it is not printed.
