@@ -118,7 +118,7 @@ module _ (o : Options) where
   literal-limited s c n e = rw e at (limited-literal s)
 
   -- ---- terms
-  weighted-good : (s : List ℕ) (t : Term) (n : ℕ) → weighted o s ≡ got t n → GoodTerm (o .first) t
+  pub weighted-good : (s : List ℕ) (t : Term) (n : ℕ) → weighted o s ≡ got t n → GoodTerm (o .first) t
   unfolding weighted afterWeight done
   weighted-good s t n e =
       let a = chain-linked number _ s t n e in
