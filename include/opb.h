@@ -98,7 +98,7 @@ extern "C" {
 #define OPB_REFUSED_NUMBER 3
 /* No blank after a weight, or no literal there. Place S. */
 #define OPB_REFUSED_LITERAL 4
-/* File number beyond u32, below the first index, or index above its limit. Place S; in writing, the row. */
+/* File number beyond u32, below the first index, or index above its limit. Place S; in writing and listing, the row. */
 #define OPB_REFUSED_VARIABLE 5
 /* No operator after a sum. Place S. */
 #define OPB_REFUSED_OPERATOR 6
@@ -206,7 +206,7 @@ opb_text opb_write(const uint8_t *kinds, size_t kinds_length,
 
 /* The first `rows` rows of a table (all, where it has fewer) as lines parted by tabs: `opb`, rows, terms, first index; then for each row `c` and the comment's length, or `ge`, `le`, `eq` or
  * `min`, the bound, and weight and literal of each term. Changes the first `length` bytes of `out`. Where `out_length` is 0, refusal 14 tells the length needed.
- * Refusals: row by row 11; then 14. */
+ * Refusals: row by row 11, 5; then 14. */
 opb_text opb_list(const uint8_t *kinds, size_t kinds_length,
                   const size_t *firsts, size_t firsts_length,
                   const size_t *counts, size_t counts_length,

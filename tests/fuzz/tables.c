@@ -216,10 +216,18 @@ opb_text model_write(const columns *t, const uint8_t *text, size_t text_length, 
 
 /* ---- listing */
 
-/* 11, or 0 and the count of terms added */
-static int count_row(const columns *t, size_t row, size_t *terms) {
+/* 5: a file number beyond u32 */
+static int unnumbered(const columns *t, size_t row, uint32_t first) {
+    for (size_t i = t->firsts[row]; i < t->firsts[row] + t->counts[row]; i++)
+        if ((unsigned long long)(t->literals[i] / 2) + first > 4294967295) return 1;
+    return 0;
+}
+
+/* 11, then 5, or 0 and the count of terms added */
+static int count_row(const columns *t, size_t row, uint32_t first, size_t *terms) {
     if (t->kinds[row] == OPB_COMMENT) return 0;
     if (t->kinds[row] > OPB_OBJECTIVE || outside(t, row)) return 11;
+    if (unnumbered(t, row, first)) return 5;
     *terms += t->counts[row];
     return 0;
 }
@@ -247,8 +255,10 @@ opb_text model_list(const columns *t, size_t rows, uint32_t first, uint8_t *out)
     writing w = {t, NULL, 0, first, 0, out, 0};
     size_t terms = 0;
     rows = lesser(rows, row_room(t));
-    for (size_t row = 0; row < rows; row++)
-        if (count_row(t, row, &terms)) return (opb_text){.refusal = 11, .place = row};
+    for (size_t row = 0; row < rows; row++) {
+        int refusal = count_row(t, row, first, &terms);
+        if (refusal) return (opb_text){.refusal = (uint8_t)refusal, .place = row};
+    }
     put_house(&w, rows, terms);
     return (opb_text){.length = w.length};
 }

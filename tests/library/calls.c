@@ -231,6 +231,26 @@ static void lists(void) {
     check(text_refused(opb_list(COLUMNS(t, 5, 4), 5, 1, out, sizeof out), OPB_REFUSED_ROW, 4), "a row that no table may hold");
 }
 
+static void refuses_to_list(void) {
+    uint8_t before[sizeof out];
+    memcpy(before, out, sizeof out);
+    table t = one_row(OPB_AT_LEAST, 1, 0);
+    check(is_text(opb_list(COLUMNS(t, 1, 1), 1, UINT32_MAX, out, sizeof out), "opb\t1\t1\t4294967295\nge\t0\t0\tx4294967295\n"), "the greatest file number");
+    memcpy(out, before, sizeof out);
+    t.kinds[1] = OPB_OBJECTIVE;
+    t.firsts[1] = 0;
+    t.counts[1] = 2;
+    t.literals[1] = 2;
+    check(text_refused(opb_list(COLUMNS(t, 2, 2), 2, UINT32_MAX, out, sizeof out), OPB_REFUSED_VARIABLE, 1), "a file number beyond u32");
+    check(text_refused(opb_list(COLUMNS(t, 2, 2), 2, UINT32_MAX, NULL, 0), OPB_REFUSED_VARIABLE, 1), "a file number beyond u32 before the output that does not fit");
+    t.literals[0] = UINT32_MAX;
+    t.firsts[0] = 1;
+    check(text_refused(opb_list(COLUMNS(t, 2, 2), 2, UINT32_MAX, out, sizeof out), OPB_REFUSED_VARIABLE, 0), "the first row that is refused");
+    t.kinds[0] = OPB_COMMENT;
+    check(text_refused(opb_list(COLUMNS(t, 2, 2), 2, UINT32_MAX, out, sizeof out), OPB_REFUSED_ROW, 1), "a row that no table may hold before its file numbers");
+    check(memcmp(out, before, sizeof out) == 0, "a refused listing changes no byte");
+}
+
 int main(void) {
     check(sizeof(opb_table) == 32 && sizeof(opb_text) == 24 && sizeof(opb_value) == 40, "sizes of the answers");
     reads_the_plan();
@@ -244,6 +264,7 @@ int main(void) {
     writes();
     refuses_to_write();
     lists();
+    refuses_to_list();
     printf("%d passed, %d failed\n", passed, failed);
     return failed != 0;
 }

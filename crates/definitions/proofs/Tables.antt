@@ -9,9 +9,11 @@ use lib.ListN.{length, take, drop, length-append, length-map, length-drop}
 use lib.Seq.{take-append-seam, drop-append-seam}
 use lib.IntN.{ℤ}
 use Rattle.definitions.specs.Lists.{over, joined, AllOf}
-use Rattle.definitions.specs.Refusal.{accept}
+use Rattle.definitions.specs.Refusal.{Checked, refuse, accept}
 use Rattle.definitions.specs.Row.{Term, weightOf, literalOf, Kind, atLeast, atMost, equal, objective, Line, comment, row, termsOf}
-use Rattle.definitions.specs.Table.{Table, table, termRoom, accepted, kindNumber, kindIn, firstIn, countIn, boundIn, firstsFrom, allTerms, filled, Entry, entriesOf, entries, termsOn, termsAt, inColumn, indexed, weighted, remark, sortOf, rowByRow, lineIn}
+use Rattle.definitions.specs.Table.{Table, table, termRoom, Outcome, refused, accepted, kindNumber, kindIn, firstIn, countIn, boundIn, firstsFrom, allTerms, filled, Entry, entriesOf, entries, termsOn, termsAt, inColumn, indexed, weighted, remark, sortOf, onRow, rowByRow, andThen, lineIn}
+use Rattle.definitions.specs.Write.{numbered}
+use Rattle.definitions.specs.House.{listedLine, listedEntry}
 
 -- the entries of lines, the first of which has m terms before it
 unfoldable pub entriesFor : ℕ → List Line → List Entry
@@ -45,6 +47,10 @@ over-length xs l h = rw (length-append, length-drop (length xs) l) (omega arith)
 -- every index within its limit
 abbrev pub Indexed : Line → Type 0
 Indexed l = indexed (termsOf l) ≡ true
+
+-- every file number within its limit
+abbrev pub Numbered : ℕ → Line → Type 0
+Numbered first l = numbered first (termsOf l) ≡ true
 
 module _ (all : List Line) (t : Table) (room : length (allTerms all) ≤ termRoom t) where
   pub filled-term-room : termRoom (filled all t) ≡ termRoom t
@@ -104,3 +110,27 @@ module _ (all : List Line) (t : Table) (room : length (allTerms all) ≤ termRoo
 pub filled-back : (ls : List Line) (t : Table) (room : length (allTerms ls) ≤ termRoom t) → AllOf Indexed ls
     → rowByRow (lineIn (filled ls t)) 0 (take (length ls) (entries (filled ls t))) ≡ accepted ls
 filled-back ls t room g = rw (filled-entries ls t) (rows-back ls t room 0 [] ls g refl)
+
+-- where each has its file numbers, they are listed row by row, too
+numbered-listed : (first : ℕ) (l : Line) → Numbered first l → listedLine first l ≡ accept l
+numbered-listed first (comment f n b) h = refl
+numbered-listed first (row r) h = rw h
+
+rows-listed : (first : ℕ) (t : Table) (i : ℕ) (es : List Entry) (ls : List Line) → rowByRow (lineIn t) i es ≡ accepted ls → AllOf (Numbered first) ls → rowByRow (listedEntry first t) i es ≡ accepted ls
+unfolding rowByRow listedEntry
+rows-listed first t i [] ls e h = e
+rows-listed first t i (a ∷ es) ls e h = by (lineIn t a) (rowByRow (lineIn t) (i + 1) es) e (λ ks q g. rows-listed first t (i + 1) es ks q g)
+  where
+    by : (c : Checked Line) (x : Outcome (List Line)) → onRow i c x ≡ accepted ls
+        → ((ks : List Line) → x ≡ accepted ks → AllOf (Numbered first) ks → rowByRow (listedEntry first t) (i + 1) es ≡ accepted ks)
+        → onRow i (andThen c (listedLine first)) (rowByRow (listedEntry first t) (i + 1) es) ≡ accepted ls
+    by (refuse n) x e ih = let z : _≡_ {A = ℕ} 0 1 = cc in absurd (omega arith)
+    by (accept l) (refused r) e ih = let z : _≡_ {A = ℕ} 0 1 = cc in absurd (omega arith)
+    by (accept l) (accepted ks) e ih =
+        let q : ls ≡ l ∷ ks = cc in
+        let g = rw q at h in
+        rw (numbered-listed first l (g .0), ih ks refl (g .1)) (ap accepted (sym q))
+
+pub filled-listed : (first : ℕ) (ls : List Line) (t : Table) (room : length (allTerms ls) ≤ termRoom t) → AllOf Indexed ls → AllOf (Numbered first) ls
+    → rowByRow (listedEntry first (filled ls t)) 0 (take (length ls) (entries (filled ls t))) ≡ accepted ls
+filled-listed first ls t room g h = rows-listed first (filled ls t) 0 (take (length ls) (entries (filled ls t))) ls (filled-back ls t room g) h

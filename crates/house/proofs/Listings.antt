@@ -10,9 +10,9 @@ use Rattle.definitions.specs.Lists.{joined}
 use Rattle.definitions.specs.Limits.{neededLimit}
 use Rattle.definitions.specs.Refusal.{refusal, Checked, refuse, accept, needed}
 use Rattle.definitions.specs.Row.{Term, Line, comment, row, termsOf}
-use Rattle.definitions.specs.Table.{Table, rowRoom, Outcome, refused, accepted, allTerms, entries, onRow, rowByRow, lineIn}
+use Rattle.definitions.specs.Table.{Table, rowRoom, Outcome, refused, accepted, allTerms, entries, onRow, rowByRow}
 use Rattle.definitions.specs.Write.{fittedText, outputAfter}
-use Rattle.definitions.specs.House.{termFields, houseLine, headLine, listing, listingTable}
+use Rattle.definitions.specs.House.{termFields, houseLine, headLine, listing, listedEntry, listingTable}
 use Rattle.definitions.proofs.Puts.{Puts, rest-room, puts-then, puts-as, needed-add}
 use Rattle.columns.proofs.Terms.{entries-count}
 use Rattle.house.specs.declared.Listed.the-variants.{Refused, Listed}
@@ -25,9 +25,9 @@ use Rattle.house.proofs.Words.{line-length}
 
 -- ---- what the sizes were counted of
 
-pub refused-sizes : (first i : ℕ) (x : Outcome (List Line)) → refused (refusal 11 i) ≡ sizesIn first x → x ≡ refused (refusal 11 i)
-refused-sizes first i (refused r) e = cc
-refused-sizes first i (accepted ls) e = let z : _≡_ {A = ℕ} 0 1 = cc in absurd (omega arith)
+pub refused-sizes : (first k i : ℕ) (x : Outcome (List Line)) → refused (refusal k i) ≡ sizesIn first x → x ≡ refused (refusal k i)
+refused-sizes first k i (refused r) e = cc
+refused-sizes first k i (accepted ls) e = let z : _≡_ {A = ℕ} 0 1 = cc in absurd (omega arith)
 
 pub record Counted (first : ℕ) (x : Outcome (List Line)) (s : Sizes) : Type 0 where
   pub lines : List Line
@@ -55,15 +55,15 @@ take-taken zero l = refl
 take-taken (suc n) [] = refl
 take-taken {A} (suc n) (a ∷ l) = ap (λ (r : List A). a ∷ r) (take-taken n l)
 
-module _ (n : ℕ) (t : Table) (ls : List Line) (e : linesOf n t ≡ accepted ls) where
+module _ (first n : ℕ) (t : Table) (ls : List Line) (e : linesOf first n t ≡ accepted ls) where
   count-is : length ls ≡ length (take n (entries t))
-  count-is = accepted-count (lineIn t) 0 (take n (entries t)) ls e
+  count-is = accepted-count (listedEntry first t) 0 (take n (entries t)) ls e
 
   pub count-within : length ls ≤ rowRoom t
   count-within = omega (arith, count-is, length-take n (entries t), entries-count t)
 
   -- as many as were accepted
-  pub counted-lines : linesOf (length ls) t ≡ accepted ls
+  pub counted-lines : linesOf first (length ls) t ≡ accepted ls
   counted-lines = rw (count-is, take-taken n (entries t)) e
 
 -- ---- a term takes a byte or more
@@ -125,11 +125,11 @@ module _ (first : ℕ) (ls : List Line) where
 -- ---- what is answered
 
 module _ (first n : ℕ) (t : Table) (o : List ℕ) where
-  pub lists-refused : (i : ℕ) → linesOf n t ≡ refused (refusal 11 i) → Lists first n t o (Refused 11 i) o
+  pub lists-refused : (k i : ℕ) → linesOf first n t ≡ refused (refusal k i) → Lists first n t o (Refused k i) o
   unfolding listingTable outputAfter
-  lists-refused i e = record { answer = rw e; after = rw e }
+  lists-refused k i e = record { answer = rw e; after = rw e }
 
-  module _ (ls : List Line) (e : linesOf n t ≡ accepted ls) where
+  module _ (ls : List Line) (e : linesOf first n t ≡ accepted ls) where
     outcome : listingTable first n t (length o) ≡ fittedText (length o) (text first ls)
     unfolding listingTable
     outcome = rw (e, is-listing first ls)
@@ -153,7 +153,7 @@ module _ (first n : ℕ) (t : Table) (o : List ℕ) where
 
 -- ---- what the code counts: r rows, m terms and a length of k, and w with the head
 
-module _ (first n : ℕ) (t : Table) (o : List ℕ) (r m k : ℕ) (c : Counted first (linesOf n t) (record { rows = r; all = record { terms = m; length = k } }))
+module _ (first n : ℕ) (t : Table) (o : List ℕ) (r m k : ℕ) (c : Counted first (linesOf first n t) (record { rows = r; all = record { terms = m; length = k } }))
     (w : ℕ) (e : w ≡ needed (k + length (headText r m first))) where
   rows-are : r ≡ length (c .lines)
   rows-are = ap (λ (z : Sizes). z .rows) (c .sizes)
@@ -192,20 +192,20 @@ module _ (first n : ℕ) (t : Table) (o : List ℕ) (r m k : ℕ) (c : Counted f
     room : 0 + length (headText r m first ++ body) ≤ length o
     room = omega (arith, fits, text-length first (c .lines), ap length head-is, length-append (headText r m first) body)
 
-    lines-are : linesOf r t ≡ accepted (c .lines)
-    lines-are = ap (λ (x : ℕ). linesOf x t) rows-are ∙ counted-lines n t (c .lines) (c .are)
+    lines-are : linesOf first r t ≡ accepted (c .lines)
+    lines-are = ap (λ (x : ℕ). linesOf first x t) rows-are ∙ counted-lines first n t (c .lines) (c .are)
 
     module _ {at : ℕ} {o₁ : List ℕ} (p : Puts (headText r m first) 0 o at o₁) where
       pub lines-ready : RowsReady first r t at o₁
       lines-ready =
           record {
-            within = omega (arith, rows-are, count-within n t (c .lines) (c .are));
+            within = omega (arith, rows-are, count-within first n t (c .lines) (c .are));
             lines = c .lines;
             are = lines-are;
             room = rest-room p body room;
           }
 
-      pub listing-all : {end : ℕ} {o₂ : List ℕ} → ((ls : List Line) → linesOf r t ≡ accepted ls → Puts (joined (houseLine first) ls) at o₁ end o₂) → Lists first n t o (Listed end) o₂
+      pub listing-all : {end : ℕ} {o₂ : List ℕ} → ((ls : List Line) → linesOf first r t ≡ accepted ls → Puts (joined (houseLine first) ls) at o₁ end o₂) → Lists first n t o (Listed end) o₂
       listing-all {end} {o₂} f =
           let q = puts-then p (omega (arith, head-room)) (f (c .lines) lines-are) in
           lists-all first n t o (c .lines) (c .are) end o₂ fits (puts-as q (ap (λ (x : List ℕ). x ++ body) head-is))

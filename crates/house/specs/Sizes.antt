@@ -11,10 +11,12 @@ use Rattle.definitions.specs.Number.{integerText}
 use Rattle.definitions.specs.Literal.{indexOf, fileNumber}
 use Rattle.definitions.specs.Row.{Term, Line, termsOf}
 use Rattle.definitions.specs.Table.{Outcome, refused, accepted, allTerms}
-use Rattle.definitions.specs.Write.{isAccepted}
+use Rattle.definitions.specs.Write.{isAccepted, numbered}
 use Rattle.definitions.specs.House.{termFields, houseLine}
 use Rattle.columns.specs.Kinds.{readKind}
 use Rattle.house.specs.Words.{commentLine, wordField}
+use Rattle.house.specs.declared.terms.TermsLength.{TermsLength}
+use Rattle.house.specs.declared.terms.TermsLength.the-variants as terms-length
 use Rattle.house.specs.declared.measure.Size.{Size}
 use Rattle.house.specs.declared.measure.RowSize.{RowSize}
 use Rattle.house.specs.declared.measure.RowSize.the-variants as row-size
@@ -26,6 +28,15 @@ use Rattle.house.specs.declared.measure.Measured.the-variants as measure
 -- the length of its fields; 5: "file number beyond u32"
 abbrev pub termLength : ℕ → Term → Checked ℕ
 termLength first t = cond (isAccepted (fileNumber first (indexOf (t .code)))) (accept (length (termFields first t))) (refuse 5)
+
+-- ---- of the terms of a row
+
+abbrev pub termsLength : ℕ → List Term → Checked ℕ
+termsLength first ts = cond (numbered first ts) (accept (needed (length (joined (termFields first) ts)))) (refuse 5)
+
+abbrev pub saidTermsLength : TermsLength → Checked ℕ
+saidTermsLength (terms-length.Is n) = accept n
+saidTermsLength terms-length.OutOfRange = refuse 5
 
 -- ---- of one row
 
@@ -42,10 +53,9 @@ abbrev pub sizeIn : ℕ → Checked Line → Checked Size
 sizeIn first (refuse n) = refuse n
 sizeIn first (accept l) = accept (sizeOf first l)
 
--- 11: "row that no table may hold"
 abbrev pub saidSize : RowSize → Checked Size
 saidSize (row-size.Is s) = accept s
-saidSize row-size.Refused = refuse 11
+saidSize (row-size.Refused n) = refuse n
 
 -- ---- of all rows
 
@@ -62,4 +72,4 @@ sizesIn first (accepted ls) = accepted (sizesOf first ls)
 
 abbrev pub saidMeasured : Measured → Outcome Sizes
 saidMeasured (measured.Lines n s) = accepted (record { rows = n; all = s })
-saidMeasured (measured.Refused i) = refused (refusal 11 i)
+saidMeasured (measured.Refused n i) = refused (refusal n i)

@@ -8,21 +8,24 @@ use Rattle.definitions.specs.Refusal.{Checked, refuse, accept}
 use Rattle.definitions.specs.Bytes.{tab, lf, letterX, tilde}
 use Rattle.definitions.specs.Number.{decimal, integerText}
 use Rattle.definitions.specs.Row.{Kind, Line, row, rowOf}
-use Rattle.definitions.specs.Table.{Table, table, Outcome, Entry, entries, termsOn, indexed, rowByRow, lineIn}
-use Rattle.definitions.specs.House.{field, kindWord}
+use Rattle.definitions.specs.Table.{Table, table, Outcome, Entry, entries, termsOn, indexed, rowByRow}
+use Rattle.definitions.specs.Write.{numbered}
+use Rattle.definitions.specs.House.{field, kindWord, listedEntry}
 use Rattle.columns.specs.Kinds.{readKind}
 
--- a row of a kind whose terms lie in their columns: 11 for "an index above its limit"
-abbrev pub rowOn : ℕ → ℤ → List ℤ → List ℕ → Checked Line
-rowOn k b ws cs = cond (indexed (termsOn ws cs)) (accept (row (rowOf (readKind k) b (termsOn ws cs)))) (refuse 11)
+-- a row of a kind whose terms lie in their columns: 11 for "an index above its limit", then 5
+abbrev pub rowOn : ℕ → ℕ → ℤ → List ℤ → List ℕ → Checked Line
+rowOn first k b ws cs =
+    cond (indexed (termsOn ws cs)) (cond (numbered first (termsOn ws cs)) (accept (row (rowOf (readKind k) b (termsOn ws cs)))) (refuse 5))
+    (refuse 11)
 
 -- the line of an entry of a table with these two columns
-abbrev pub lineOn : List ℤ → List ℕ → Entry → Checked Line
-lineOn ws cs e = lineIn (table [] [] [] [] ws cs) e
+abbrev pub lineOn : ℕ → List ℤ → List ℕ → Entry → Checked Line
+lineOn first ws cs e = listedEntry first (table [] [] [] [] ws cs) e
 
 -- of the first n rows
-abbrev pub linesOf : ℕ → Table → Outcome (List Line)
-linesOf n t = rowByRow (lineIn t) 0 (take n (entries t))
+abbrev pub linesOf : ℕ → ℕ → Table → Outcome (List Line)
+linesOf first n t = rowByRow (listedEntry first t) 0 (take n (entries t))
 
 -- ---- texts
 

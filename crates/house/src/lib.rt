@@ -27,7 +27,7 @@ pub enum Listed {
     Listed(usize),
 }
 
-// The lines of the first `rows` rows. "Row 11", then 14 with the length needed.
+// The lines of the first `rows` rows. Row by row 11, then 5; then 14 with the length needed.
 pub fn list_table(
     kinds: &[u8],
     firsts: &[usize],
@@ -51,8 +51,8 @@ pub fn list_table(
         rows,
         first,
     ) {
-        Measured::Refused(row) => Listed::Refused {
-            number: 11,
+        Measured::Refused { number, row } => Listed::Refused {
+            number,
             place: row as u64,
         },
         Measured::Lines(n, size) => {

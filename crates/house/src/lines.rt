@@ -99,7 +99,7 @@ fn put_row(
     at: usize,
 ) -> usize
     requires { ⌜ RowReady first (now weights) (now literals) (record { kind = kind; first = start; count = count; bound = bound }) at (now out) ⌝ }
-    ensures { λ r. ⌜ ((l : Line) → lineOn (now (weights .entry)) (now (literals .entry)) (record { kind = kind; first = start; count = count; bound = bound }) ≡ accept l
+    ensures { λ r. ⌜ ((l : Line) → lineOn first (now (weights .entry)) (now (literals .entry)) (record { kind = kind; first = start; count = count; bound = bound }) ≡ accept l
         → Puts (houseLine first l) at (now (out .entry)) r (now (out .exit))) ⌝ }
 {
     if kind == COMMENT {
@@ -130,7 +130,7 @@ pub(crate) fn put_rows(
     at: usize,
 ) -> usize
     requires { ⌜ RowsReady first rows (table (now kinds) (now firsts) (now counts) (now bounds) (now weights) (now literals)) at (now out) ⌝ }
-    ensures { λ r. ⌜ ((ls : List Line) → linesOf rows (table (now (kinds .entry)) (now (firsts .entry)) (now (counts .entry)) (now (bounds .entry)) (now (weights .entry)) (now (literals .entry))) ≡ accepted ls
+    ensures { λ r. ⌜ ((ls : List Line) → linesOf first rows (table (now (kinds .entry)) (now (firsts .entry)) (now (counts .entry)) (now (bounds .entry)) (now (weights .entry)) (now (literals .entry))) ≡ accepted ls
         → Puts (joined (houseLine first) ls) at (now (out .entry)) r (now (out .exit))) ⌝ }
 {
     let mut end = at;

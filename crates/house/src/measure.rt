@@ -1,4 +1,5 @@
 // The first walk over the rows: each is checked, and terms and the length of the lines are counted. Assumes nothing.
+use crate::terms::TermsLength;
 use crate::terms::add_needed;
 use crate::terms::terms_length;
 ghost use mathlib.Core.Path.{_≡_};
@@ -17,6 +18,12 @@ pub(crate) const COMMENT: u8 = 0;
 
 const OBJECTIVE: u8 = 4;
 
+// "row that no table may hold"
+const NO_ROW: u8 = 11;
+
+// "file number beyond u32"
+const NO_NUMBER: u8 = 5;
+
 // How many terms, and the length of the lines.
 pub(crate) struct Size {
     pub terms: u64,
@@ -25,15 +32,15 @@ pub(crate) struct Size {
 
 pub(crate) enum RowSize {
     Is(Size),
-    // "row that no table may hold": 11
-    Refused,
+    // 11 or 5
+    Refused(u8),
 }
 
 pub(crate) enum Measured {
     // How many rows, and their sizes together.
     Lines(usize, Size),
     // The first row that is refused.
-    Refused(usize),
+    Refused { number: u8, row: usize },
 }
 
 fn word_length(kind: u8) -> usize
@@ -71,19 +78,21 @@ pub fn line_length(kind: u8, count: usize, bound: i64, terms: u64) -> u64
     row_length(kind, bound, terms)
 }
 
-// A row of a read kind, whose terms lie in their columns: the rest of 11.
+// A row of a read kind, whose terms lie in their columns: the rest of 11, then 5.
 fn measure_line(kind: u8, bound: i64, weights: &[i64], literals: &[u32], first: u32) -> RowSize
     requires { ⌜ length (now weights) ≡ length (now literals) ⌝ }
-    ensures { λ r. ⌜ saidSize r ≡ sizeIn first (rowOn kind bound (now (weights .entry)) (now (literals .entry))) ⌝ }
+    ensures { λ r. ⌜ saidSize r ≡ sizeIn first (rowOn first kind bound (now (weights .entry)) (now (literals .entry))) ⌝ }
 {
     if !columns::indexed_of(literals) {
-        return RowSize::Refused;
+        return RowSize::Refused(NO_ROW);
     }
-    let terms = terms_length(weights, literals, first);
-    RowSize::Is(Size {
-        terms: literals.len() as u64,
-        length: row_length(kind, bound, terms),
-    })
+    match terms_length(weights, literals, first) {
+        TermsLength::Is(length) => RowSize::Is(Size {
+            terms: literals.len() as u64,
+            length: row_length(kind, bound, length),
+        }),
+        TermsLength::OutOfRange => RowSize::Refused(NO_NUMBER),
+    }
 }
 
 // A row of a table: a comment is listed as it is; a kind that the reader does not give is refused.
@@ -96,7 +105,7 @@ fn measure_row(
     literals: &[u32],
     first: u32,
 ) -> RowSize
-    ensures { λ r. ⌜ saidSize r ≡ sizeIn first (lineOn (now (weights .entry)) (now (literals .entry)) (record { kind = kind; first = start; count = count; bound = bound })) ⌝ }
+    ensures { λ r. ⌜ saidSize r ≡ sizeIn first (lineOn first (now (weights .entry)) (now (literals .entry)) (record { kind = kind; first = start; count = count; bound = bound })) ⌝ }
 {
     if kind == COMMENT {
         return RowSize::Is(Size {
@@ -105,11 +114,11 @@ fn measure_row(
         });
     }
     if kind > OBJECTIVE {
-        return RowSize::Refused;
+        return RowSize::Refused(NO_ROW);
     }
     let room = columns::term_room(weights, literals);
     if !columns::in_column(start, count, room) {
-        return RowSize::Refused;
+        return RowSize::Refused(NO_ROW);
     }
     let end = start + count;
     measure_line(
@@ -131,7 +140,7 @@ pub(crate) fn measure_rows(
     rows: usize,
     first: u32,
 ) -> Measured
-    ensures { λ r. ⌜ saidMeasured r ≡ sizesIn first (linesOf rows (table (now (kinds .entry)) (now (firsts .entry)) (now (counts .entry)) (now (bounds .entry)) (now (weights .entry)) (now (literals .entry)))) ⌝ }
+    ensures { λ r. ⌜ saidMeasured r ≡ sizesIn first (linesOf first rows (table (now (kinds .entry)) (now (firsts .entry)) (now (counts .entry)) (now (bounds .entry)) (now (weights .entry)) (now (literals .entry)))) ⌝ }
 {
     let n = columns::lesser(rows, columns::row_room(kinds, firsts, counts, bounds));
     let mut all = Size {
@@ -155,7 +164,7 @@ pub(crate) fn measure_rows(
                     length: add_needed(all.length, size.length),
                 };
             }
-            RowSize::Refused => return Measured::Refused(i),
+            RowSize::Refused(number) => return Measured::Refused { number, row: i },
         }
         i += 1;
     }

@@ -30,7 +30,7 @@ use Rattle.reader.proofs.FillRows.{constraint-read, goal-read, goal-begins, goa
 use Rattle.house.specs.Sizes.{lineLength}
 use Rattle.house.specs.Words.{commentLine}
 use Rattle.house.proofs.Words.{comment-words, line-length}
-use Rattle.listing.specs.Measure.{termsLength, SumMeasured, RowMeasured, TermsMeasured, LineMeasured}
+use Rattle.listing.specs.Measure.{fieldsLength, SumMeasured, RowMeasured, TermsMeasured, LineMeasured}
 
 -- ---- an objective: its sum stands behind `min:` and blanks
 
@@ -149,7 +149,7 @@ begun-is o s l n e = begun-at o (blanks s) (drop (blanks s) s) l n e
 
 module _ (o : Options) (s : List ℕ) (k : ℕ) (m : ℕ) where
   -- where the terms of each line that may stand there have this length
-  by-line : ((l : Line) (n : ℕ) → statement o s ≡ item l n → k ≡ kindIn l → m ≡ termsLength (o .first) (termsOf l)) → TermsMeasured (o .first) (statement o s) k m
+  by-line : ((l : Line) (n : ℕ) → statement o s ≡ item l n → k ≡ kindIn l → m ≡ fieldsLength (o .first) (termsOf l)) → TermsMeasured (o .first) (statement o s) k m
   by-line f = by (statement o s) refl
     where
       by : (x : Step Line) → statement o s ≡ x → TermsMeasured (o .first) x k m
@@ -176,25 +176,25 @@ module _ (o : Options) (s : List ℕ) where
     pub goal-fields : k ≡ 4 → RowMeasured (o .first) (goal o (drop j s)) m → TermsMeasured (o .first) (statement o s) k m
     goal-fields h f = by-line o s k m here
       where
-        here : (l : Line) (n : ℕ) → statement o s ≡ item l n → k ≡ kindIn l → m ≡ termsLength (o .first) (termsOf l)
+        here : (l : Line) (n : ℕ) → statement o s ≡ item l n → k ≡ kindIn l → m ≡ fieldsLength (o .first) (termsOf l)
         here l n e q =
             let w = begun-is o s l n e in
             let t = w .behind in
             let r = by-goal o (drop (blanks s) s) (w .begin) (t .line) (t .taken) (t .is) (t .kind ∙ sym q ∙ h) in
-            let g : m ≡ termsLength (o .first) (r .given .terms) = rw (b, r .reads) at f in
-            g ∙ ap (termsLength (o .first)) (sym (ap termsOf (r .is)) ∙ t .terms)
+            let g : m ≡ fieldsLength (o .first) (r .given .terms) = rw (b, r .reads) at f in
+            g ∙ ap (fieldsLength (o .first)) (sym (ap termsOf (r .is)) ∙ t .terms)
 
     pub constraint-fields : (k ≡ 0 → ⊥) → (k ≡ 4 → ⊥) → SumMeasured (o .first) (sum o (drop j s)) m → TermsMeasured (o .first) (statement o s) k m
     constraint-fields h i f = by-line o s k m here
       where
-        here : (l : Line) (n : ℕ) → statement o s ≡ item l n → k ≡ kindIn l → m ≡ termsLength (o .first) (termsOf l)
+        here : (l : Line) (n : ℕ) → statement o s ≡ item l n → k ≡ kindIn l → m ≡ fieldsLength (o .first) (termsOf l)
         here l n e q =
             let w = begun-is o s l n e in
             let t = w .behind in
             let r = by-constraint o (drop (blanks s) s) (w .begin) (t .line) (t .taken) (t .is) (λ z. h (q ∙ sym (t .kind) ∙ z)) (λ z. i (q ∙ sym (t .kind) ∙ z)) in
             let p = constraint-read o (drop (blanks s) s) (r .given) (r .taken) (r .reads) in
-            let g : m ≡ termsLength (o .first) (r .given .terms) = rw (b, p .reads) at f in
-            g ∙ ap (termsLength (o .first)) (sym (ap termsOf (r .is)) ∙ t .terms)
+            let g : m ≡ fieldsLength (o .first) (r .given .terms) = rw (b, p .reads) at f in
+            g ∙ ap (fieldsLength (o .first)) (sym (ap termsOf (r .is)) ∙ t .terms)
 
 -- ---- its line
 
@@ -211,7 +211,7 @@ row-number atMost = refl
 row-number equal = refl
 row-number objective = refl
 
-line-is : (first : ℕ) (l : Line) → lineLength (kindIn l) (countIn l) (boundIn l) (termsLength first (termsOf l)) ≡ needed (length (houseLine first l))
+line-is : (first : ℕ) (l : Line) → lineLength (kindIn l) (countIn l) (boundIn l) (fieldsLength first (termsOf l)) ≡ needed (length (houseLine first l))
 line-is first (comment f n b) = ap (λ (x : List ℕ). needed (length x)) (sym (comment-words first f n b))
 line-is first (row r) =
     rw (row-number (r .kind), kind-number (r .kind), needed-add)
@@ -223,5 +223,5 @@ module _ (first : ℕ) (k c : ℕ) (b : ℤ) (f m : ℕ) (e : m ≡ lineLength k
   line-sized (bad n j) t = tt
   line-sized (item l n) t = λ p q r. e ∙ go p q r (t p)
     where
-      go : k ≡ kindIn l → c ≡ countIn l → b ≡ boundIn l → f ≡ termsLength first (termsOf l) → lineLength k c b f ≡ needed (length (houseLine first l))
+      go : k ≡ kindIn l → c ≡ countIn l → b ≡ boundIn l → f ≡ fieldsLength first (termsOf l) → lineLength k c b f ≡ needed (length (houseLine first l))
       go p q r s = rw (p, q, r, s) (line-is first l)

@@ -18,14 +18,14 @@ use Rattle.definitions.proofs.Puts.{joined-last}
 use Rattle.reader.proofs.Sums.{never}
 use Rattle.house.specs.Sizes.{termLength}
 use Rattle.house.proofs.Fields.{needed-more}
-use Rattle.listing.specs.Measure.{termsLength, SumMeasured}
+use Rattle.listing.specs.Measure.{fieldsLength, SumMeasured}
 use Rattle.listing.proofs.Numbered.{read-length}
 
 -- at an offset: the terms before it, and the length of their fields
 pub record SumSized (o : Options) (s : List ℕ) (at total : ℕ) : Type 0 where
   pub terms : List Term
   pub stands : At (termStep o) anywhere s at terms
-  pub sized : total ≡ termsLength (o .first) terms
+  pub sized : total ≡ fieldsLength (o .first) terms
 
 module _ (o : Options) (s : List ℕ) where
   pub sum-start : SumSized o s 0 0

@@ -18,23 +18,23 @@ use Rattle.listing.specs.declared.measure.Measured.the-variants as measu
 -- ---- of one statement
 
 -- the fields of terms
-abbrev pub termsLength : ℕ → List Term → ℕ
-termsLength first ts = needed (length (joined (termFields first) ts))
+abbrev pub fieldsLength : ℕ → List Term → ℕ
+fieldsLength first ts = needed (length (joined (termFields first) ts))
 
 -- m is that length for the terms of a sum, of a row, of a statement
 abbrev pub SumMeasured : ℕ → Got (List Term) → ℕ → Type 0
 SumMeasured first (none e) m = Unit {0}
-SumMeasured first (got ts n) m = m ≡ termsLength first ts
+SumMeasured first (got ts n) m = m ≡ fieldsLength first ts
 
 abbrev pub RowMeasured : ℕ → Got Row → ℕ → Type 0
 RowMeasured first (none e) m = Unit {0}
-RowMeasured first (got r n) m = m ≡ termsLength first (r .terms)
+RowMeasured first (got r n) m = m ≡ fieldsLength first (r .terms)
 
 -- of a statement of the kind with the number k
 abbrev pub TermsMeasured : ℕ → Step Line → ℕ → ℕ → Type 0
 TermsMeasured first stop k m = Unit {0}
 TermsMeasured first (bad e j) k m = Unit {0}
-TermsMeasured first (item l n) k m = k ≡ kindIn l → m ≡ termsLength first (termsOf l)
+TermsMeasured first (item l n) k m = k ≡ kindIn l → m ≡ fieldsLength first (termsOf l)
 
 -- the line of a statement whose kind, count and bound are told
 abbrev pub LineMeasured : ℕ → Step Line → ℕ → ℕ → ℤ → ℕ → Type 0

@@ -21,7 +21,7 @@ use Rattle.definitions.specs.File.{linesOf, statements, file, reading}
 use Rattle.definitions.specs.Normal.{normalLine, normalIn, normalising}
 use Rattle.definitions.specs.Evaluate.{foundBy, found, foundIn, frontBy, onPlace, evaluating}
 use Rattle.definitions.specs.Write.{Item, say, line, itemText, itemBy, itemIn, rowAllowed, allowed, writtenIn, fittedText, textOf, writing}
-use Rattle.definitions.specs.House.{listing, listedIn, listingTable}
+use Rattle.definitions.specs.House.{listing, listedLine, listedEntry, listedIn, listingTable}
 use Rattle.definitions.specs.declared.Options.{Options}
 use Rattle.definitions.specs.declared.Mode.{Mode}
 use Rattle.definitions.specs.declared.Beginning.{Beginning}
@@ -409,6 +409,16 @@ pub writing-in : (m : Mode) (t : Table) (s : List ℕ) (room : ℕ) → inOutcom
 unfolding writing
 writing-in m t s room = text-in m room (rowByRow (writtenIn m t s) 0 (entries t)) (rows-in (writtenIn m t s) (written-in m t s) 0 (entries t))
 
+-- 5
+listed-line-in : (first : ℕ) (l : Line) → inChecked (listedLine first l) ≡ true
+unfolding inChecked
+listed-line-in first (comment f n b) = refl
+listed-line-in first (row r) = simp (checked-cond, both)
+
+listed-entry-in : (first : ℕ) (t : Table) (e : Entry) → inChecked (listedEntry first t e) ≡ true
+unfolding listedEntry
+listed-entry-in first t e = then-checked-in (listedLine first) (listed-line-in first) (lineIn t e) (line-in t e)
+
 listed-in : (first room : ℕ) (x : Outcome (List Line)) → inOutcome x ≡ true → inOutcome (listedIn first room x) ≡ true
 unfolding inOutcome
 listed-in first room (refused r) h = h
@@ -418,4 +428,4 @@ pub listing-in : (first n : ℕ) (t : Table) (room : ℕ) → inOutcome (listing
 unfolding listingTable
 listing-in first n t room =
     let es = take n (entries t) in
-    listed-in first room (rowByRow (lineIn t) 0 es) (rows-in (lineIn t) (line-in t) 0 es)
+    listed-in first room (rowByRow (listedEntry first t) 0 es) (rows-in (listedEntry first t) (listed-entry-in first t) 0 es)

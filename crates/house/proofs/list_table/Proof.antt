@@ -27,9 +27,9 @@ module _ (c : tie.After-text-length) where
   abbrev size : Size
   size = c .before .before .n .given .0 .1 .0
 
-  counted : Counted (start .args .first) (linesOf (start .args .rows) (whole start)) (record { rows = rows; all = size })
+  counted : Counted (start .args .first) (linesOf (start .args .first) (start .args .rows) (whole start)) (record { rows = rows; all = size })
   counted =
-      accepted-sizes (start .args .first) (linesOf (start .args .rows) (whole start)) (record { rows = rows; all = size })
+      accepted-sizes (start .args .first) (linesOf (start .args .first) (start .args .rows) (whole start)) (record { rows = rows; all = size })
       (sym (ap saidMeasured (c .before .before .n .given .1)) ∙ c .before .before .before .before .measure-rows .ensures)
 
   short : length (now (start .args .out)) < neededLimit
@@ -38,8 +38,8 @@ module _ (c : tie.After-text-length) where
 measure-rows-requires : tie.Need-measure-rows-requires
 measure-rows-requires c κs = search needs
 
-enum-known-row : tie.Need-enum-known-row
-enum-known-row c = search needs
+enum-known-number : tie.Need-enum-known-number
+enum-known-number c = search needs
 
 enum-known-n : tie.Need-enum-known-n
 enum-known-n c = search needs
@@ -71,8 +71,8 @@ returns-2 : tie.Need-returns-2
 returns-2 c =
     let m = c .before .before .before in
     let s = m .before .before .before .before .before .before in
-    lists-refused (s .args .first) (s .args .rows) (whole s) (now (s .args .out)) _
-    (refused-sizes (s .args .first) _ (linesOf (s .args .rows) (whole s)) (sym (ap saidMeasured (c .before .row .given .1)) ∙ m .measure-rows .ensures))
+    lists-refused (s .args .first) (s .args .rows) (whole s) (now (s .args .out)) _ _
+    (refused-sizes (s .args .first) _ _ (linesOf (s .args .first) (s .args .rows) (whole s)) (sym (ap saidMeasured (c .before .number .given .1)) ∙ m .measure-rows .ensures))
 
 same-length : tie.Need-same-length
 same-length c = search needs
@@ -91,7 +91,7 @@ list-table-spec =
     tie.close
     (tie.spec
     measure-rows-requires
-    enum-known-row
+    enum-known-number
     enum-known-n
     text-length-requires
     returns

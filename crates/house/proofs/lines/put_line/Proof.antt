@@ -81,7 +81,7 @@ put-number-requires : tie.Need-put-number-requires
 put-number-requires c κs = let p = c .before .before .before in rw (toZ-ofZ (start p .fits .bound)) (front-room (bound (start p)) (terms (start p) ++ (lf ∷ [])) _ (rest₁ p))
 
 put-terms-requires : tie.Need-put-terms-requires
-put-terms-requires c κs = let p = c .before .before .before in let s = start (word-put p) in record { long = s .pre .long; room = front-room (terms s) (lf ∷ []) _ (rest₂ p) }
+put-terms-requires c κs = let p = c .before .before .before in let s = start (word-put p) in record { long = s .pre .long; numbers = s .pre .numbers; room = front-room (terms s) (lf ∷ []) _ (rest₂ p) }
 
 slice-write-out : tie.Need-slice-write-out
 slice-write-out c = omega (arith, rest₃ (c .before .before))

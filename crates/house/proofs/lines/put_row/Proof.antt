@@ -22,14 +22,14 @@ entry s = record { kind = s .args .kind; first = s .args .start; count = s .args
 comment-room : (c : tie.Then1) → c .before .before .before .args .at + length (commentLine (c .before .before .before .args .count)) ≤ length (now (c .before .before .before .args .out))
 comment-room c =
     let s = c .before .before .before in
-    rw (accepted-comment _ _ (entry s) (s .pre .line) (s .pre .is) (c .if1 .taken), comment-words) at (s .pre .room)
+    rw (accepted-comment _ _ _ (entry s) (s .pre .line) (s .pre .is) (c .if1 .taken), comment-words) at (s .pre .room)
 
 module _ (c : tie.Else1) where
   abbrev start : tie.Start
   start = c .before .before .before
 
-  read : ReadEntry (now (start .args .weights)) (now (start .args .literals)) (entry start) (start .pre .line) (start .pre .is)
-  read = accepted-row _ _ (entry start) (start .pre .line) (start .pre .is) (c .if1 .left)
+  read : ReadEntry (start .args .first) (now (start .args .weights)) (now (start .args .literals)) (entry start) (start .pre .line) (start .pre .is)
+  read = accepted-row _ _ _ (entry start) (start .pre .line) (start .pre .is) (c .if1 .left)
 
   within : start .args .start + start .args .count ≤ min (length (now (start .args .weights))) (length (now (start .args .literals)))
   within = leb-true _ _ (read .inside)
@@ -44,7 +44,7 @@ returns : tie.Need-returns
 returns c =
     let d = c .before .before .before .before in
     let s = d .before .before .before in
-    λ l q. rw (accepted-comment _ _ (entry s) l q (d .if1 .taken), comment-words) (c .before .before .put-comment .ensures)
+    λ l q. rw (accepted-comment _ _ _ (entry s) l q (d .if1 .taken), comment-words) (c .before .before .put-comment .ensures)
 
 add-end : tie.Need-add-end
 add-end c = omega (arith, within c, start c .good)
@@ -79,7 +79,7 @@ put-line-requires c κs =
     let s = start d in
     let n : s .args .start + s .args .count - s .args .start ≡ s .args .count = omega arith in
     rw (toZ-ofZ (s .fits .bound), n)
-    (record { long = read d .long; room = omega (arith, s .pre .room, ap (λ (l : Line). length (houseLine (s .args .first) l)) (read d .is)) })
+    (record { long = read d .long; numbers = read d .numbers; room = omega (arith, s .pre .room, ap (λ (l : Line). length (houseLine (s .args .first) l)) (read d .is)) })
 
 same-length-2 : tie.Need-same-length-2
 same-length-2 c = search needs
@@ -89,7 +89,7 @@ returns-2 c =
     let d = c .before .before .before .before .before .before in
     let s = start d in
     let n : s .args .start + s .args .count - s .args .start ≡ s .args .count = omega arith in
-    λ l q. rw (accepted-row _ _ (entry s) l q (d .if1 .left) .is) (rw (toZ-ofZ (s .fits .bound), n) at (c .before .before .put-line .ensures))
+    λ l q. rw (accepted-row _ _ _ (entry s) l q (d .if1 .left) .is) (rw (toZ-ofZ (s .fits .bound), n) at (c .before .before .put-line .ensures))
 
 pub put-row-spec : {M : Type 1} → statement M
 put-row-spec =

@@ -38,7 +38,7 @@ returns : tie.Need-returns
 returns c = comment-sized _ _ _ (entry (c .before .before .before)) _ (c .before .if1 .taken) (c .comment-length .ensures)
 
 returns-2 : tie.Need-returns-2
-returns-2 c = ap (sizeIn _) (sym (unread-entry _ _ (entry (c .before .before .before)) (c .if2 .taken)))
+returns-2 c = ap (sizeIn _) (sym (unread-entry _ _ _ (entry (c .before .before .before)) (c .if2 .taken)))
 
 term-room-requires : tie.Need-term-room-requires
 term-room-requires c κs = search needs
@@ -50,7 +50,7 @@ returns-3 : tie.Need-returns-3
 returns-3 c =
     let d = c .before .before .before in
     let s = d .before .before .before in
-    ap (sizeIn _) (sym (outside-entry _ _ (entry s) (d .before .if1 .left) (d .if2 .left) (sym (in-column-is (c .before)) ∙ not-true (c .before .in-column .result) (c .if3 .taken))))
+    ap (sizeIn _) (sym (outside-entry _ _ _ (entry s) (d .before .if1 .left) (d .if2 .left) (sym (in-column-is (c .before)) ∙ not-true (c .before .in-column .result) (c .if3 .taken))))
 
 add-end : tie.Need-add-end
 add-end c = omega (arith, within c, start c .good)
@@ -89,7 +89,7 @@ returns-4 c =
     let n : s .args .start + s .args .count - s .args .start ≡ s .args .count = omega arith in
     c .measure-line .ensures
     ∙ rw (toZ-ofZ (s .fits .bound), n)
-    (ap (sizeIn _) (sym (inside-entry _ _ (entry s) (d .before .before .before .before .if1 .left) (d .before .before .before .if2 .left) (inside d))))
+    (ap (sizeIn _) (sym (inside-entry _ _ _ (entry s) (d .before .before .before .before .if1 .left) (d .before .before .before .if2 .left) (inside d))))
 
 pub measure-row-spec : {M : Type 1} → statement M
 measure-row-spec =

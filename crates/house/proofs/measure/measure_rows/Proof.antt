@@ -37,7 +37,7 @@ module _ (c : tie.After-measure-row Inv-loop μ-loop) where
   abbrev turn : tie.In-loop Inv-loop μ-loop
   turn = c .before .before .before .before .before
 
-  said : saidSize (c .measure-row .result) ≡ sizeIn (start turn .args .first) (lineOn (now (start turn .args .weights)) (now (start turn .args .literals)) (entryAt (whole (start turn)) (turn .before .loop .i)))
+  said : saidSize (c .measure-row .result) ≡ sizeIn (start turn .args .first) (lineOn (start turn .args .first) (now (start turn .args .weights)) (now (start turn .args .literals)) (entryAt (whole (start turn)) (turn .before .loop .i)))
   said = rw (toZ-ofZ (sfits-of (c .before .measure-row-arg .given))) at (c .measure-row .ensures)
 
 row-room-requires : tie.Need-row-room-requires Inv-loop μ-loop
@@ -82,16 +82,16 @@ add-needed-requires c κs = tt
 add-needed-requires-2 : tie.Need-add-needed-requires-2 Inv-loop μ-loop
 add-needed-requires-2 c κs = tt
 
-enum-told : tie.Need-enum-told Inv-loop μ-loop
-enum-told c = search needs
+enum-known-number : tie.Need-enum-known-number Inv-loop μ-loop
+enum-known-number c = search needs
 
 returns : tie.Need-returns Inv-loop μ-loop
 returns c =
-    let m = c .before .before in
+    let m = c .before .before .before in
     let d = turn m in
     let t = d .before .loop in
-    measures-refused (whole (start d)) (start d .args .rows) (start d .args .first) (t .i) (t .all) (t .inv .1) (in-table d .0) (in-table d .1)
-    (sym (ap saidSize (c .enum-told .given .1)) ∙ said m)
+    measures-refused (whole (start d)) (start d .args .rows) (start d .args .first) (t .i) (t .all) (t .inv .1) (in-table d .0) (in-table d .1) _
+    (sym (ap saidSize (c .before .number .given .1)) ∙ said m)
 
 add-i : tie.Need-add-i Inv-loop μ-loop
 add-i c = let d = turn (c .before .before .before .before .before) in omega (arith, in-table d, start d .good)
@@ -137,7 +137,7 @@ measure-rows-spec =
     enum-known-size
     add-needed-requires
     add-needed-requires-2
-    enum-told
+    enum-known-number
     returns
     add-i
     loop-less

@@ -1,61 +1,80 @@
--- `put_term` meets its contract: a tab and the weight, and the literal behind them.
+-- `put_term` meets its contract: the variable has a file number, and the fields are put with it.
 use native.Mathlib.Omega.{arith}
-use mathlib.Core.Path.{_≡_, refl, _∙_}
+use mathlib.Core.Path.{_≡_, ap, _∙_}
 use Prim.Native.Nat.{_+_, _≤_}
-use lib.ListN.{length, length-set}
+use lib.ListN.{length}
 use mir.Facts.{toZ-ofZ}
 use denote.Ref.{now}
-use Rattle.definitions.specs.Number.{integerText}
-use Rattle.definitions.specs.Write.{literalText}
-use Rattle.definitions.specs.House.{field, termFields}
-use Rattle.definitions.proofs.Puts.{Puts, puts-length, puts-then, byte-then}
-use Rattle.house.proofs.Fields.{term-fields-length}
+use Rattle.definitions.specs.Literal.{indexOf, negated, fileNumber}
+use Rattle.definitions.specs.Row.{term}
+use Rattle.definitions.specs.House.{termFields}
+use Rattle.definitions.proofs.Puts.{puts-as}
+use Rattle.symbols.specs.Said.{saidFileNumber}
+use Rattle.house.specs.Words.{termWords}
+use Rattle.house.proofs.Fields.{number-is, no-number, not-both, term-words}
 use borrow.Author.Needs.{needs}
 use Rattle.house.proofs.terms.put_term.Statement.{statement}
 use Rattle.house.proofs.terms.put_term.Tie as tie
 
-room : (s : tie.Start) → s .args .at + (length (integerText (s .args .w)) + length (literalText (s .args .first) (s .args .l .0)) + 2) ≤ length (now (s .args .out))
-room s = omega (arith, s .pre, term-fields-length (s .args .first) (s .args .w) (s .args .l .0))
-
-module _ (c : tie.After-put-number) where
+module _ (c : tie.After-of) where
   abbrev start : tie.Start
   start = c .before .before .before
 
-  weight-put : Puts (field (integerText (start .args .w))) (start .args .at) (now (start .args .out)) (c .put-number .result) (c .put-number .last .1 .0)
-  weight-put =
-      byte-then 9 (start .args .at) (start .args .at + 1) (now (start .args .out)) (omega (arith, room start)) refl
-      (rw (toZ-ofZ (start .fits .w)) at (c .put-number .ensures))
+  said : saidFileNumber (c .of .result) ≡ fileNumber (start .args .first) (indexOf (start .args .l .0))
+  said = c .of .ensures ∙ ap (fileNumber (start .args .first)) (c .before .var .ensures)
 
-  weight-long : length (c .put-number .last .1 .0) ≡ length (now (start .args .out))
-  weight-long = puts-length weight-put (omega (arith, room start))
+module _ (c : tie.After-n) where
+  abbrev s : tie.Start
+  s = start (c .before .before)
 
-slice-write-out : tie.Need-slice-write-out
-slice-write-out c = omega (arith, room (c .before))
+  words : termWords (s .args .w) (negated (s .args .l .0)) (c .n .given .0 .0 .0) ≡ termFields (s .args .first) (term (s .args .w) (s .args .l .0))
+  words = term-words (s .args .first) (s .args .w) (s .args .l .0) _ (number-is _ _ _ (said (c .before .before)) _ (c .n .given .1) .0)
 
-add-put-number : tie.Need-add-put-number
-add-put-number c = search needs
+var-requires : tie.Need-var-requires
+var-requires c κs = search needs
 
-put-number-requires : tie.Need-put-number-requires
-put-number-requires c κs = rw (toZ-ofZ (c .before .before .fits .w)) (simp length-set (omega (arith, room (c .before .before))))
+of-requires : tie.Need-of-requires
+of-requires c κs = search needs
 
-put-literal-requires : tie.Need-put-literal-requires
-put-literal-requires c κs = let p = c .before .before .before in omega (arith, room (start p), weight-put p .place, weight-long p)
+enum-known-n : tie.Need-enum-known-n
+enum-known-n c = search needs
+
+is-neg-requires : tie.Need-is-neg-requires
+is-neg-requires c κs = search needs
+
+put-fields-requires : tie.Need-put-fields-requires
+put-fields-requires c κs =
+    let n = c .before .before .before in
+    let h : s n .args .at + length (termWords (s n .args .w) (negated (s n .args .l .0)) (n .n .given .0 .0 .0)) ≤ length (now (s n .args .out)) = omega (arith, s n .pre .room, ap length (words n)) in
+    rw (toZ-ofZ (s n .fits .w), c .before .is-neg .ensures) h
+
+enum-told : tie.Need-enum-told
+enum-told c = search needs
 
 same-length : tie.Need-same-length
-same-length c = c .before .before .put-literal .kept .1 .1 .0 ∙ weight-long (c .before .before .before .before .before .before)
+same-length c = search needs
 
 returns : tie.Need-returns
 returns c =
-    let p = c .before .before .before .before .before .before in
-    unfold termFields in puts-then (weight-put p) (omega (arith, room (start p))) (c .before .before .put-literal .ensures)
+    let p = c .before .before in
+    let n = p .before .before .before .before in
+    puts-as (rw (toZ-ofZ (s n .fits .w), p .before .before .is-neg .ensures) at (p .put-fields .ensures)) (words n)
+
+returns-2 : tie.Need-returns-2
+returns-2 c =
+    let d = c .before .before in
+    not-both (start d .pre .number) (no-number _ _ _ (said d) (c .enum-told .given .1))
 
 pub put-term-spec : {M : Type 1} → statement M
 put-term-spec =
     tie.close
     (tie.spec
-    slice-write-out
-    add-put-number
-    put-number-requires
-    put-literal-requires
+    var-requires
+    of-requires
+    enum-known-n
+    is-neg-requires
+    put-fields-requires
+    enum-told
     same-length
-    returns)
+    returns
+    returns-2)
