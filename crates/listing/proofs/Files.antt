@@ -14,19 +14,20 @@ use Rattle.definitions.specs.Refusal.{refusal, needed}
 use Rattle.definitions.specs.Row.{Line}
 use Rattle.definitions.specs.Table.{Table, Outcome, refused, accepted, entries, filled, Totals, totalsOf, allTerms, counted, after, rowByRow}
 use Rattle.definitions.specs.File.{firstAt, file, reading}
-use Rattle.definitions.specs.Write.{fittedText, outputAfter, lengthOf}
+use Rattle.definitions.specs.Write.{fittedText, outputAfter}
 use Rattle.definitions.specs.House.{refusedLine, listing, listedEntry, listingTable}
 use Rattle.definitions.proofs.Tables.{filled-listed}
 use Rattle.definitions.proofs.ReadRows.{statements-good, good-indexed, good-numbered}
 use Rattle.definitions.proofs.FileAnswers.{file-accepted}
 use Rattle.definitions.proofs.Columns.{fitted-accepted}
-use Rattle.definitions.proofs.Puts.{put-done, put-full}
-use Rattle.numbers.specs.declared.Put.the-variants.{Done, Full}
+use Rattle.definitions.proofs.Puts.{put-in-fits}
+use Rattle.numbers.specs.declared.Put.{Put}
 use Rattle.numbers.specs.Print.{Prints}
 use Rattle.reader.specs.declared.file.Answer.{Answer}
 use Rattle.reader.specs.declared.file.Answer.the-variants as answer
 use Rattle.reader.specs.Reads.{Reads}
 use Rattle.reader.specs.Said.{saidAnswer}
+use Rattle.house.specs.declared.Listed as code
 use Rattle.house.specs.declared.Listed.the-variants as listed
 use Rattle.house.specs.Lists.{Lists}
 use Rattle.listing.specs.ListsFile.{fileListing, tableAfter, ListsFile, ListsRead}
@@ -76,18 +77,10 @@ module _ (first : ℕ) (s : List ℕ) (t : Table) where
       line-room : 0 + length (refusedLine (refusal n p)) ≤ length o
       line-room = omega (arith, ap length text-is)
 
-      pub refused-lists : (k : ℕ) → Prints (refusedLine (refusal n p)) 0 o (Done k) o′ → ListsRead first s t o k t′ o′
-      refused-lists k prints =
-          let d = put-done (refusedLine (refusal n p)) 0 o line-room (prints .answer) (prints .after) in
+      pub refused-lists : (r : Put) → Prints (refusedLine (refusal n p)) 0 o r o′ → ListsRead first s t o t′ o′
+      refused-lists r prints =
           let z : 0 + length (refusedLine (refusal n p)) ≡ length (refusedLine (refusal n p)) = omega arith in
-          record {
-            answer = d .place ∙ z ∙ ap length (sym text-is);
-            output = d .after ∙ rw (z, text-is);
-            tables = reads .after;
-          }
-
-      pub refused-fits {ℓ} : {X : Type ℓ} → Prints (refusedLine (refusal n p)) 0 o Full o′ → X
-      refused-fits prints = put-full (refusedLine (refusal n p)) 0 o line-room (prints .answer)
+          record { output = prints .after ∙ put-in-fits (refusedLine (refusal n p)) 0 o line-room ∙ rw (z, text-is); tables = reads .after }
 
     -- ---- a table
     module _ (n m : ℕ) (q : a ≡ answer.Read n m) where
@@ -106,20 +99,9 @@ module _ (first : ℕ) (s : List ℕ) (t : Table) where
           ∙ ap (λ (k : ℕ). listingTable first k (filled (counts .lines) t) (length o)) (counts .count)
           ∙ rw (table-back (counts .lines) (counts .are), ← counts .are) (fitted-is text o room)
 
-      pub read-lists : (k : ℕ) → Lists first n t′ o (listed.Listed k) o′ → ListsRead first s t o k t′ o′
+      pub read-lists : (r : code.Listed) → Lists first n t′ o r o′ → ListsRead first s t o t′ o′
       unfolding outputAfter
-      read-lists k l =
-          let e : accepted k ≡ accepted (length text) = l .answer ∙ ap lengthOf outcome in
-          record {
-            answer = cc;
-            output = l .after ∙ ap (λ (x : Outcome (List ℕ)). outputAfter x o) outcome;
-            tables = reads .after;
-          }
-
-      pub read-fits {ℓ} : {X : Type ℓ} (k p : ℕ) → Lists first n t′ o (listed.Refused k p) o′ → X
-      read-fits k p l =
-          let e : refused (refusal k p) ≡ accepted (length text) = l .answer ∙ ap lengthOf outcome in
-          let z : _≡_ {A = ℕ} 0 1 = cc in absurd (omega arith)
+      read-lists r l = record { output = l .after ∙ ap (λ (x : Outcome (List ℕ)). outputAfter x o) outcome; tables = reads .after }
 
   -- ---- the length was measured first: w is needed
   module _ (o : List ℕ) (w : ℕ) (e : w ≡ needed (length text)) where
@@ -134,8 +116,9 @@ module _ (first : ℕ) (s : List ℕ) (t : Table) where
       pub lists-room : length text ≤ length o
       lists-room = unfold needed in omega (arith, e)
 
-      pub lists-all : (k : ℕ) (t′ : Table) (o′ : List ℕ) → ListsRead first s t o k t′ o′ → ListsFile first s t o (listed.Listed k) t′ o′
+      pub lists-all : (t′ : Table) (o′ : List ℕ) → ListsRead first s t o t′ o′ → ListsFile first s t o (listed.Listed w) t′ o′
       unfolding fileListing outputAfter
-      lists-all k t′ o′ r =
+      lists-all t′ o′ r =
           let l = le-leb (length text) (length o) lists-room in
-          record { answer = rw l (ap accepted (r .answer)); output = rw l (r .output); tables = rw l (r .tables) }
+          let n : w ≡ length text = unfold needed in omega (arith, e) in
+          record { answer = rw l (ap accepted n); output = rw l (r .output); tables = rw l (r .tables) }

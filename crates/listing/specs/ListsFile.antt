@@ -27,8 +27,7 @@ pub record ListsFile (first : ℕ) (s : List ℕ) (t : Table) (o : List ℕ) (r 
   pub output : o′ ≡ outputAfter (fileListing first s t (length o)) o
   pub tables : t′ ≡ tableAfter (fileListing first s t (length o)) (reading (firstAt first) s t) t
 
--- where the lines fit, with r their length
-pub record ListsRead (first : ℕ) (s : List ℕ) (t : Table) (o : List ℕ) (r : ℕ) (t′ : Table) (o′ : List ℕ) : Type 0 where
-  pub answer : r ≡ length (listing first (reading (firstAt first) s t))
+-- the same where the lines fit, but for the answer
+pub record ListsRead (first : ℕ) (s : List ℕ) (t : Table) (o : List ℕ) (t′ : Table) (o′ : List ℕ) : Type 0 where
   pub output : o′ ≡ over (listing first (reading (firstAt first) s t)) o
   pub tables : t′ ≡ after (reading (firstAt first) s t) t

@@ -5,7 +5,6 @@ mod measure;
 
 use definitions::Options;
 use house::Listed;
-use numbers::Put;
 use reader::Answer;
 ghost use Prim.Native.Nat.{_≤_};
 ghost use lib.ListN.{length};
@@ -14,7 +13,7 @@ ghost use Rattle.definitions.specs.File.{firstAt, reading};
 ghost use Rattle.definitions.specs.House.{listing};
 ghost use Rattle.listing.specs.ListsFile.{ListsRead, ListsFile};
 
-// Into an output that has room for the lines: their length. So neither call below finds the output full.
+// Into an output that has room for the lines, so that neither call below finds it full.
 fn list_read(
     file: &[u8],
     first: u32,
@@ -25,9 +24,9 @@ fn list_read(
     weights: &mut [i64],
     literals: &mut [u32],
     out: &mut [u8],
-) -> usize
+)
     requires { ⌜ length (listing first (reading (firstAt first) (now file) (table (now kinds) (now firsts) (now counts) (now bounds) (now weights) (now literals)))) ≤ length (now out) ⌝ }
-    ensures { λ r. ⌜ ListsRead first (now (file .entry)) (table (now (kinds .entry)) (now (firsts .entry)) (now (counts .entry)) (now (bounds .entry)) (now (weights .entry)) (now (literals .entry))) (now (out .entry)) r
+    ensures { λ _. ⌜ ListsRead first (now (file .entry)) (table (now (kinds .entry)) (now (firsts .entry)) (now (counts .entry)) (now (bounds .entry)) (now (weights .entry)) (now (literals .entry))) (now (out .entry))
         (table (now (kinds .exit)) (now (firsts .exit)) (now (counts .exit)) (now (bounds .exit)) (now (weights .exit)) (now (literals .exit))) (now (out .exit)) ⌝ }
 {
     let options = Options { first };
@@ -42,13 +41,10 @@ fn list_read(
         literals,
     ) {
         Answer::Refused { number, place } => {
-            match house::list_refusal(number, place as u64, out) {
-                Put::Done(length) => length,
-                Put::Full => 0,
-            }
+            house::list_refusal(number, place as u64, out);
         }
         Answer::Read { rows, terms: _ } => {
-            match house::list_table(
+            house::list_table(
                 kinds,
                 firsts,
                 counts,
@@ -58,13 +54,7 @@ fn list_read(
                 rows,
                 first,
                 out,
-            ) {
-                Listed::Listed(length) => length,
-                Listed::Refused {
-                    number: _,
-                    place: _,
-                } => 0,
-            }
+            );
         }
     }
 }
@@ -93,7 +83,7 @@ pub fn list_file(
             place: length,
         };
     }
-    Listed::Listed(list_read(
+    list_read(
         file,
         first,
         kinds,
@@ -103,5 +93,6 @@ pub fn list_file(
         weights,
         literals,
         out,
-    ))
+    );
+    Listed::Listed(length as usize)
 }

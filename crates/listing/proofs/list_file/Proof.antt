@@ -101,7 +101,7 @@ returns-2 c =
     let d = e .before in
     let l = r .list-read .last in
     let left = table (l .1 .1 .0) (l .1 .1 .1 .0) (l .1 .1 .1 .1 .0) (l .1 .1 .1 .1 .1 .0) (l .1 .1 .1 .1 .1 .1 .0) (l .1 .1 .1 .1 .1 .1 .1 .0) in
-    lists-all (start d .args .first) (text d) (lent d) (out d) _ (measured d) (e .if1 .left) (short d) _ left _ (r .list-read .ensures)
+    lists-all (start d .args .first) (text d) (lent d) (out d) _ (measured d) (e .if1 .left) (short d) left _ (r .list-read .ensures)
 
 pub list-file-spec : {M : Type 1} → statement M
 list-file-spec =
