@@ -1,4 +1,4 @@
-// Runs the walker's own functions on two small files: a walker is made, looked ahead with, stepped twice, asked where it stands, moved, and its statement's terms are filled. Each function with a local
+// Runs the walker's own functions on four small files: a walker is made, looked ahead with, stepped twice, asked where it stands, moved, and its statement's terms are filled. Each function with a local
 // that holds the file is proved by a walk of its own, so there are three, and each does nothing but call; all else is covered. tests/vectors/walker_stdout.py makes stdout. Assumes nothing but what libc
 // says of itself.
 use definitions::Options;
