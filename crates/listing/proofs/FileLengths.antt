@@ -1,18 +1,16 @@
 -- A file's walk that measures: where it stands, with what is counted of the lines before it; and the length of the whole text.
 use Prim.Native.Nat.{ℕ, _+_, _≤_, _<_, _^_}
 use mathlib.Core.Path.{_≡_, refl, sym, ap, _∙_}
-use mathlib.Core.Bool.{Bool, true, false}
 use mathlib.Core.List.{List, [], _∷_, _++_}
 use native.Mathlib.Omega.{arith}
 use borrow.Author.Tests.{le-leb, lt-leb}
-use lib.Dec.{leb}
 use lib.IntN.{ℤ}
 use lib.ListN.{length, drop, length-append, length-drop}
 use Rattle.definitions.specs.Lists.{joined}
 use Rattle.definitions.specs.Limits.{fileLimit}
 use Rattle.definitions.specs.Refusal.{refusal, needed}
-use Rattle.definitions.specs.Walk.{Step, stop, bad, item, Walked, all}
-use Rattle.definitions.specs.Row.{Term, Line, comment, row, termsOf}
+use Rattle.definitions.specs.Walk.{stop, bad, item, Walked, all}
+use Rattle.definitions.specs.Row.{Line, comment, row, termsOf}
 use Rattle.definitions.specs.Table.{Table, rowRoom, termRoom, Outcome, refused, accepted, kindIn, countIn, boundIn, allTerms, fitted}
 use Rattle.definitions.specs.Text.{statement, inFile}
 use Rattle.definitions.specs.File.{linesOf, statements, file, reading}

@@ -1,14 +1,11 @@
 -- What was read is listed: a table that was read holds the rows that were read, so its house lines are those of the rows. The lines are listed where they fit, and nothing is changed where
 -- they do not.
 use mathlib.Core.Path.{_≡_, refl, sym, ap, _∙_}
-use mathlib.Core.Bool.{true, false}
 use mathlib.Core.List.{List}
 use Prim.Native.Nat.{ℕ, _+_, _≤_, _<_}
 use native.Mathlib.Omega.{arith}
 use borrow.Author.Tests.{le-leb, lt-leb}
-use lib.Dec.{leb}
 use lib.ListN.{length, take}
-use Rattle.definitions.specs.Lists.{over}
 use Rattle.definitions.specs.Limits.{neededLimit}
 use Rattle.definitions.specs.Refusal.{refusal, needed}
 use Rattle.definitions.specs.Row.{Line}
@@ -30,7 +27,7 @@ use Rattle.reader.specs.Said.{saidAnswer}
 use Rattle.house.specs.declared.Listed as code
 use Rattle.house.specs.declared.Listed.the-variants as listed
 use Rattle.house.specs.Lists.{Lists}
-use Rattle.listing.specs.ListsFile.{fileListing, tableAfter, ListsFile, ListsRead}
+use Rattle.listing.specs.ListsFile.{fileListing, ListsFile, ListsRead}
 
 -- ---- what an answer was counted of
 

@@ -1,5 +1,5 @@
 -- What stands at the front of a file, by its kind: where its sum is, and the length of its line.
-use Prim.Native.Nat.{ℕ, _+_, _≤_}
+use Prim.Native.Nat.{ℕ, _+_}
 use mathlib.Core.Path.{_≡_, refl, sym, ap, _∙_}
 use mathlib.Core.Bool.{false}
 use mathlib.Core.List.{List, [], _∷_}
@@ -28,7 +28,6 @@ use Rattle.columns.specs.Kinds.{readKind}
 use Rattle.reader.proofs.Sums.{never}
 use Rattle.reader.proofs.FillRows.{constraint-read, goal-read, goal-begins, goal-start}
 use Rattle.house.specs.Sizes.{lineLength}
-use Rattle.house.specs.Words.{commentLine}
 use Rattle.house.proofs.Words.{comment-words, line-length}
 use Rattle.listing.specs.Measure.{fieldsLength, SumMeasured, RowMeasured, TermsMeasured, LineMeasured}
 

@@ -6,7 +6,6 @@ use native.Mathlib.Omega.{arith}
 use lib.ListN.{length, drop, length-drop}
 use Rattle.definitions.specs.Lists.{joined}
 use Rattle.definitions.specs.Refusal.{refuse, accept, needed}
-use Rattle.definitions.specs.Reader.{none, got}
 use Rattle.definitions.specs.Walk.{Walked, stop, bad, item, all, anywhere}
 use Rattle.definitions.specs.Row.{Term}
 use Rattle.definitions.specs.Text.{termStep, asGot, sum}

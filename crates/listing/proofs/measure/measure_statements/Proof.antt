@@ -1,6 +1,6 @@
 -- `measure_statements` meets its contract: the loop stands at an offset with what the lines before it have counted and measured (`FileSized`, proofs/FileLengths.antt). The measure is what is left of
 -- the file.
-use Prim.Native.Nat.{ℕ, _+_, _-_}
+use Prim.Native.Nat.{ℕ, _-_}
 use mathlib.Core.List.{List}
 use mathlib.Core.Path.{_≡_, ap, sym, _∙_}
 use native.Mathlib.Omega.{arith}
