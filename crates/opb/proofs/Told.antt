@@ -4,7 +4,6 @@ use mathlib.Core.Path.{_≡_, sym, ap, _∙_}
 use mathlib.Core.List.{List}
 use Rattle.definitions.specs.Table.{Table, counted}
 use Rattle.definitions.specs.File.{firstAt, file}
-use Rattle.definitions.specs.Write.{writing}
 use Rattle.reader.specs.Said.{saidCounted, saidAnswer}
 use Rattle.reader.specs.Reads.{Reads}
 use Rattle.reader.specs.declared.count.Counted.{Counted}

@@ -1,5 +1,5 @@
 -- What is said before anything is written is what writing and reading then answer: the rows come to a text of that length, and of it come back that many lines and terms.
-use Prim.Native.Nat.{ℕ, _+_, _≤_, _<_}
+use Prim.Native.Nat.{ℕ, _≤_, _<_}
 use mathlib.Core.Path.{_≡_, refl, sym, ap, ap₂, _∙_}
 use mathlib.Core.Bool.{Bool, true, false}
 use mathlib.Core.List.{List}
@@ -14,7 +14,7 @@ use Rattle.definitions.specs.Refusal.{Refusal, refusal, needed}
 use Rattle.definitions.specs.Row.{Line}
 use Rattle.definitions.specs.Table.{Table, rowRoom, termRoom, Outcome, refused, accepted, entries, allTerms, rowByRow, fitted, Totals, totalsOf, counted, after}
 use Rattle.definitions.specs.File.{file, reading}
-use Rattle.definitions.specs.Write.{Item, itemText, writtenIn, writing, fittedText, lengthOf, outputAfter}
+use Rattle.definitions.specs.Write.{Item, itemText, writtenIn, writing, fittedText, outputAfter}
 use Rattle.definitions.specs.Back.{optionsOf, linesBack, termsBack}
 use Rattle.definitions.specs.declared.Mode.{Mode}
 use Rattle.definitions.proofs.ThereAndBack.{ThereAndBack, there-and-back}
@@ -24,7 +24,7 @@ use Rattle.writer.specs.declared.rows.Extent.{Extent}
 use Rattle.writer.specs.declared.Written.{Written}
 use Rattle.writer.specs.Walks.{extentsOf, extentBy, extentFor}
 use Rattle.writer.specs.Writes.{Writes}
-use Rattle.promise.specs.Returns.{Return, unwritten, unread, back, readBack, returning, foretold, keptBy, outputKept, tablesAfter, Returns, saidReturned}
+use Rattle.promise.specs.Returns.{Return, unwritten, unread, back, readBack, returning, foretold, outputKept, tablesAfter, Returns}
 use Rattle.promise.specs.declared.Returned.the-variants.{NotWritten, NotRead, Back}
 
 never {ℓ} : {X : Type ℓ} → _≡_ {A = ℕ} 0 1 → X

@@ -5,7 +5,6 @@ use mathlib.Core.List.{List, [], _∷_, map}
 use denote.Ref.{now}
 use lib.ListN.{length}
 use Rattle.definitions.specs.Lists.{AllOf}
-use Rattle.definitions.specs.Row.{Line}
 use Rattle.definitions.specs.Table.{Table, table, Outcome, Totals, counted, after}
 use Rattle.definitions.specs.File.{firstAt, reading}
 use Rattle.definitions.specs.Write.{writing, outputAfter, lengthOf}

@@ -6,7 +6,6 @@ use denote.Ref.{now}
 use Rattle.definitions.specs.Limits.{neededLimit}
 use Rattle.definitions.specs.Table.{Table, table, rowRoom, termRoom, accepted}
 use Rattle.writer.specs.Walks.{saidMeasure, extentFor}
-use Rattle.promise.specs.Returns.{foretold}
 use Rattle.promise.proofs.Laws.{refused-before, foretold-is}
 use borrow.Author.Needs.{needs}
 use Rattle.promise.proofs.foresee.Statement.{statement}

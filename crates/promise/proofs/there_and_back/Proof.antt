@@ -1,7 +1,6 @@
 -- `there_and_back` meets its contract: a refusal that was foreseen, with nothing changed; or both accept (proofs/Laws.antt).
 use mathlib.Core.Path.{_≡_, sym, ap, _∙_}
 use Prim.Native.Nat.{ℕ}
-use mathlib.Core.List.{List}
 use denote.Ref.{now}
 use lib.ListN.{length}
 use Rattle.definitions.specs.Table.{Table, table, totalsOf}
