@@ -15,6 +15,7 @@ pub mod Stepping
 pub mod Meaning
 pub mod Normal
 pub mod Evaluate
+pub mod Values
 pub mod Write
 pub mod Document
 pub mod TableP

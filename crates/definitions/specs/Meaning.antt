@@ -3,7 +3,7 @@
 use Prim.Native.Nat.{ℕ, zero, suc, _+_, _*_, _/_, _%_, _^_}
 use mathlib.Core.Bool.{Bool, true, cond, not, _&&_}
 use mathlib.Core.List.{List, [], _∷_}
-use lib.Dec.{eqb}
+use lib.Dec.{eqb, ltb}
 use lib.IntN.{ℤ, pos, _+ℤ_}
 use lib.Signed.{leZ}
 use lib.ListN.{length, getD}
@@ -46,3 +46,7 @@ trueBelow a (suc n) = trueBelow a n + cond (a n) 1 0
 -- "the number of ones in the assignment's words"
 unfoldable pub onesOf : List ℕ → ℕ
 onesOf ws = trueBelow (assigned ws) (64 * length ws)
+
+-- "Variables may stay unknown, so a second row of words says which are known" (02, A1): ws are the values, ks the known words. A variable beyond the shorter row is not known.
+unfoldable pub isKnown : List ℕ → List ℕ → ℕ → Bool
+isKnown ws ks v = ltb v (64 * length ws) && assigned ks v

@@ -44,3 +44,10 @@ pub enum Beginning {
     Constraint,
     Nothing,
 }
+
+// The three forms of a solver's value lines (02, A1).
+pub enum Form {
+    SignedNumbers,
+    ZerosAndOnes,
+    XTokens,
+}

@@ -1,0 +1,57 @@
+// Bits of lent words: "variable v is bit v mod 64 of word v/64" (01). A bit beyond the words is 0, and making it changes nothing. Assumes nothing.
+use symbols::Lit;
+ghost use mathlib.Core.Path.{_≡_};
+ghost use mathlib.Core.Bool.{not, _&&_};
+ghost use mathlib.Core.List.{[], _∷_};
+ghost use Rattle.definitions.specs.Literal.{indexOf};
+ghost use Rattle.definitions.specs.Meaning.{isTrue, assigned, isKnown};
+ghost use Rattle.definitions.specs.Values.{bitMade, valued, marked};
+
+pub(crate) fn bit_at(words: &[u64], index: usize) -> bool
+    ensures { λ r. ⌜ r ≡ assigned (now (words .entry)) index ⌝ }
+{
+    if index / 64 >= words.len() {
+        return false;
+    }
+    let word = words[index / 64];
+    (word >> (index % 64)) % 2 == 1
+}
+
+// The bit is turned by adding or taking away its power of two, where it is not yet as it should be.
+pub(crate) fn make_bit(words: &mut [u64], index: usize, one: bool)
+    ensures { λ r. ⌜ now (words .exit) ≡ bitMade one index (now (words .entry)) ⌝ }
+{
+    let place = index / 64;
+    if place >= words.len() {
+        return;
+    }
+    let word = words[place];
+    let power = 1u64 << (index % 64);
+    let is_one = (word >> (index % 64)) % 2 == 1;
+    let cleared = if is_one { word - power } else { word };
+    words[place] = if one { cleared + power } else { cleared };
+}
+
+// Whether the literal's variable is known with another value.
+pub(crate) fn is_otherwise(literal: Lit, values: &[u64], known: &[u64]) -> bool
+    ensures { λ r. ⌜ r ≡ (isKnown (now (values .entry)) (now (known .entry)) (indexOf (literal .0)) && not (isTrue (assigned (now (values .entry))) (literal .0))) ⌝ }
+{
+    let v = literal.var().index() as usize;
+    if v / 64 >= values.len() {
+        return false;
+    }
+    if !bit_at(known, v) {
+        return false;
+    }
+    bit_at(values, v) == literal.is_neg()
+}
+
+// The literal becomes true: its variable has that value, and is known.
+pub(crate) fn make_true(literal: Lit, values: &mut [u64], known: &mut [u64])
+    ensures values { λ r. ⌜ now (values .exit) ≡ valued (literal .0 ∷ []) (now (values .entry)) ⌝ }
+    ensures known { λ r. ⌜ now (known .exit) ≡ marked (literal .0 ∷ []) (now (known .entry)) ⌝ }
+{
+    let v = literal.var().index() as usize;
+    make_bit(values, v, literal.is_pos());
+    make_bit(known, v, true);
+}
