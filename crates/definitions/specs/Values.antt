@@ -82,11 +82,17 @@ unfoldable pub itemsFrom : Spot → ℕ → List ℕ → List Item
 itemsFrom w p [] = []
 itemsFrom front p (b ∷ s) = elim (eqb b letterV) [ true ↦ itemsFrom between (p + 1) s | false ↦ untagged p ∷ [] ]
 itemsFrom between p (b ∷ s) =
-    elim (eqb b lf) [ true ↦ itemsFrom front (p + 1) s | false ↦
-    elim (isWhite b) [ true ↦ itemsFrom between (p + 1) s | false ↦ token p (frontOf isSolid (b ∷ s)) ∷ itemsFrom inside (p + 1) s ] ]
+    elim (eqb b lf) [
+      | true ↦ itemsFrom front (p + 1) s
+      | false ↦
+          elim (isWhite b) [ true ↦ itemsFrom between (p + 1) s | false ↦ token p (frontOf isSolid (b ∷ s)) ∷ itemsFrom inside (p + 1) s ]
+    ]
 itemsFrom inside p (b ∷ s) =
-    elim (eqb b lf) [ true ↦ itemsFrom front (p + 1) s | false ↦
-    elim (isWhite b) [ true ↦ itemsFrom between (p + 1) s | false ↦ itemsFrom inside (p + 1) s ] ]
+    elim (eqb b lf) [
+      | true ↦ itemsFrom front (p + 1) s
+      | false ↦
+          elim (isWhite b) [ true ↦ itemsFrom between (p + 1) s | false ↦ itemsFrom inside (p + 1) s ]
+    ]
 
 -- "20 empty block or line without `v`"
 abbrev pub itemsOf : List ℕ → List Item
@@ -155,8 +161,11 @@ unfoldable pub hear : Form → ℕ → List ℕ → List ℕ → List ℕ → Li
 hear f n ws ks heard [] = accepted heard
 hear f n ws ks heard (untagged p ∷ is) = refused (refusal 20 p)
 hear f n ws ks heard (token p s ∷ is) =
-    elim (literalsOf f n s) [ refuse e ↦ refused (refusal e p) | accept cs ↦
-    elim (anyConflict ws ks heard cs) [ true ↦ refused (refusal 22 p) | false ↦ hear f n ws ks (heard ++ cs) is ] ]
+    elim (literalsOf f n s) [
+      | refuse e ↦ refused (refusal e p)
+      | accept cs ↦
+          elim (anyConflict ws ks heard cs) [ true ↦ refused (refusal 22 p) | false ↦ hear f n ws ks (heard ++ cs) is ]
+    ]
 
 -- ---- what is left
 

@@ -20,9 +20,19 @@ pub(crate) enum Sought {
 // What the next token says, with its offset and the offset behind it; or a refusal, 20, 21 or 5.
 pub(crate) enum Next {
     End,
-    Refused { number: u8, place: usize },
-    Nothing { place: usize, end: usize },
-    Says { place: usize, end: usize, literal: Lit },
+    Refused {
+        number: u8,
+        place: usize,
+    },
+    Nothing {
+        place: usize,
+        end: usize,
+    },
+    Says {
+        place: usize,
+        end: usize,
+        literal: Lit,
+    },
 }
 
 // From the offset `from` on, which is at a line's front or not: "Lines are parted by LF"; the `v` needs no blank behind it.
@@ -63,7 +73,7 @@ fn met(token: Token, place: usize, end: usize) -> Next {
     }
 }
 
-pub(crate) fn next(block: &[u8], from: usize, front: bool, named: bool) -> Next
+pub(crate) fn next_token(block: &[u8], from: usize, front: bool, named: bool) -> Next
     requires { ⌜ from ≤ length (now block) ⌝ }
     ensures { λ r. ⌜ saidNext (now (block .entry)) r ≡ stepOf named (itemsFrom (spotOf front) from (drop from (now (block .entry)))) ⌝ }
     ensures ahead { λ r. ⌜ Ahead r from (length (now (block .entry))) ⌝ }

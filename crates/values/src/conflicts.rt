@@ -1,0 +1,149 @@
+// The first conflict in a block of signed numbers or `x` tokens (02, A1: "22 conflicting value"). Nothing may be marked in the lent words before the block is known to be good, so what a token
+// said is marked in a local row of bits, for a window of variables; each window in use has a walk of its own. Assumes nothing.
+use crate::items::Next;
+use crate::items::next_token;
+use crate::words::bit_at;
+use crate::words::is_otherwise;
+use crate::words::make_bit;
+use symbols::Lit;
+ghost use mathlib.Core.Path.{_≡_};
+ghost use mathlib.Core.List.{[]};
+ghost use Prim.Native.Nat.{_≤_};
+ghost use lib.ListN.{length};
+ghost use Rattle.definitions.specs.Limits.{indexLimit};
+ghost use Rattle.definitions.specs.Values.{front, itemsFrom};
+ghost use Rattle.values.specs.Flat.{saidBy};
+ghost use Rattle.values.specs.Windows.{conflictAt, windowOf};
+
+// How many variables a window has, and the words for its literals' bits.
+const WINDOW: u32 = 1_048_576;
+
+const MARKS: usize = 32_768;
+
+// "variable index: 1,073,741,823"
+const INDEX_LIMIT: u32 = 1_073_741_823;
+
+// The place of the first conflict of a window, and the least variable behind the window.
+pub(crate) struct Window {
+    pub place: usize,
+    pub next: u32,
+}
+
+// What a literal is to a window: not its own, a conflict, or marked.
+enum Met {
+    Before,
+    Behind(u32),
+    Conflict,
+    Marked,
+}
+
+// The mark of a literal is the bit of its code, counted from the window's first.
+fn meet(literal: Lit, base: u32, marks: &mut [u64], values: &[u64], known: &[u64]) -> Met
+    requires { ⌜ base ≤ indexLimit ⌝ }
+{
+    let v = literal.var().index();
+    if v < base {
+        return Met::Before;
+    }
+    if v - base >= WINDOW {
+        return Met::Behind(v);
+    }
+    let opposite = (literal.negated().code() - 2 * base) as usize;
+    if is_otherwise(literal, values, known) {
+        return Met::Conflict;
+    }
+    if bit_at(marks, opposite) {
+        return Met::Conflict;
+    }
+    let mark = (literal.code() - 2 * base) as usize;
+    make_bit(marks, mark, true);
+    Met::Marked
+}
+
+fn least(a: u32, b: u32) -> u32 {
+    if a < b { a } else { b }
+}
+
+// After the first conflict the walk goes on for the variables behind the window; a later conflict has a later place.
+fn mark_window(
+    block: &[u8],
+    named: bool,
+    end: usize,
+    base: u32,
+    marks: &mut [u64],
+    values: &[u64],
+    known: &[u64],
+) -> Window {
+    let mut found = end;
+    let mut behind = INDEX_LIMIT + 1;
+    let mut at: usize = 0;
+    let mut opens = true;
+    loop {
+        match next_token(block, at, opens, named) {
+            Next::End => break,
+            Next::Refused {
+                number: _,
+                place: _,
+            } => break,
+            Next::Nothing { place: _, end } => at = end,
+            Next::Says {
+                place,
+                end,
+                literal,
+            } => {
+                match meet(literal, base, marks, values, known) {
+                    Met::Behind(v) => behind = least(behind, v),
+                    Met::Conflict => {
+                        if place < found {
+                            found = place;
+                        }
+                    }
+                    Met::Before => {}
+                    Met::Marked => {}
+                }
+                at = end;
+            }
+        }
+        opens = false;
+    }
+    Window {
+        place: found,
+        next: behind,
+    }
+}
+
+fn walk_for(
+    block: &[u8],
+    named: bool,
+    end: usize,
+    base: u32,
+    values: &[u64],
+    known: &[u64],
+) -> Window
+    ensures { λ r. ⌜ r ≡ windowOf (now (values .entry)) (now (known .entry)) end base (saidBy named (itemsFrom front 0 (now (block .entry)))) ⌝ }
+{
+    let mut marks = [0u64; 32768];
+    mark_window(block, named, end, base, &mut marks, values, known)
+}
+
+// The place of the first conflict before `end`, where the first walk stopped; `end` where there is none.
+pub(crate) fn first_conflict(
+    block: &[u8],
+    named: bool,
+    end: usize,
+    values: &[u64],
+    known: &[u64],
+) -> usize
+    ensures { λ r. ⌜ r ≡ conflictAt (now (values .entry)) (now (known .entry)) [] end (saidBy named (itemsFrom front 0 (now (block .entry)))) ⌝ }
+{
+    let mut found = end;
+    let mut base: u32 = 0;
+    while base <= INDEX_LIMIT {
+        let w = walk_for(block, named, end, base, values, known);
+        if w.place < found {
+            found = w.place;
+        }
+        base = w.next;
+    }
+    found
+}

@@ -1,0 +1,121 @@
+// A solver's value lines (02, A1), the Rust's `extend_from_vline`: a block of lines makes variables known, in two lent rows of words. Three walks: one finds the first 20, 21 or 5 and the length,
+// one the first conflict before it, and once all is known to be good the last sets bits. Assumes nothing.
+mod conflicts;
+mod form;
+mod items;
+mod settle;
+mod string;
+mod survey;
+mod tokens;
+mod words;
+
+use definitions::Form;
+use string::Checked;
+ghost use mathlib.Core.Path.{_≡_};
+ghost use Prim.Native.Nat.{_<_, min};
+ghost use lib.Dec.{leb};
+ghost use lib.ListN.{length};
+ghost use Rattle.definitions.specs.Values.{formOf, wordsFor};
+ghost use Rattle.definitions.specs.declared.Form.the-variants.{ZerosAndOnes};
+ghost use Rattle.values.specs.Said.{formBy};
+ghost use Rattle.values.specs.Reads.{ReadsValues};
+
+// A refusal with its place, or the new length.
+pub enum ValuesRead {
+    Refused { number: u8, place: u64 },
+    Length(u64),
+}
+
+fn refused(number: u8, place: u64) -> ValuesRead
+    ensures { λ r. ⌜ r ≡ ValuesRead.Refused number place ⌝ }
+{
+    ValuesRead::Refused { number, place }
+}
+
+// The words that a length needs.
+fn words_for(length: u64) -> u64
+    ensures { λ r. ⌜ r ≡ wordsFor length ⌝ }
+{
+    let whole = length / 64;
+    if length % 64 == 0 { whole } else { whole + 1 }
+}
+
+// Whether both rows have as many words.
+fn has_words(needed: u64, values: &[u64], known: &[u64]) -> bool
+    ensures { λ r. ⌜ r ≡ leb needed (min (length (now (values .entry))) (length (now (known .entry)))) ⌝ }
+{
+    if (values.len() as u64) < needed {
+        return false;
+    }
+    needed <= known.len() as u64
+}
+
+// Signed numbers or `x` tokens: the first walk, then the first conflict before the place where it stopped; then 12; then the bits.
+fn read_literals(
+    block: &[u8],
+    named: bool,
+    kept: u64,
+    values: &mut [u64],
+    known: &mut [u64],
+) -> ValuesRead
+    requires some { ⌜ 0 < length (now block) ⌝ }
+    requires form { ⌜ formOf (now block) ≡ formBy named ⌝ }
+    ensures { λ r. ⌜ ReadsValues (now (block .entry)) kept (now (values .entry)) (now (known .entry)) r (now (values .exit)) (now (known .exit)) ⌝ }
+{
+    let found = survey::survey(block, named, kept);
+    let end = found.place;
+    let conflict = conflicts::first_conflict(block, named, end, values, known);
+    if conflict < end {
+        return refused(22, conflict as u64);
+    }
+    if found.number != 0 {
+        return refused(found.number, end as u64);
+    }
+    let needed = words_for(found.length);
+    if !has_words(needed, values, known) {
+        return refused(12, needed);
+    }
+    settle::settle(block, named, values, known);
+    ValuesRead::Length(found.length)
+}
+
+// One string: 20, 5, 22 and 20 again, as `string::check` finds them; then 12; then the bits.
+fn read_string(block: &[u8], kept: u64, values: &mut [u64], known: &mut [u64]) -> ValuesRead
+    requires some { ⌜ 0 < length (now block) ⌝ }
+    requires form { ⌜ formOf (now block) ≡ ZerosAndOnes ⌝ }
+    ensures { λ r. ⌜ ReadsValues (now (block .entry)) kept (now (values .entry)) (now (known .entry)) r (now (values .exit)) (now (known .exit)) ⌝ }
+{
+    match string::check(block, kept, values, known) {
+        Checked::Refused { number, place } => refused(number, place as u64),
+        Checked::Empty => {
+            let needed = words_for(kept);
+            if !has_words(needed, values, known) {
+                return refused(12, needed);
+            }
+            ValuesRead::Length(kept)
+        }
+        Checked::String { place, end } => {
+            let after = kept + (end - place) as u64;
+            let needed = words_for(after);
+            if !has_words(needed, values, known) {
+                return refused(12, needed);
+            }
+            string::append(&block[place..end], kept, values, known);
+            ValuesRead::Length(after)
+        }
+    }
+}
+
+// A block on top of what is known: the new length, or a refusal. "per line 20, then by token 21, 5, 22, each placed at its first byte; then 12 with the words needed."
+pub fn read_values(block: &[u8], length: u64, values: &mut [u64], known: &mut [u64]) -> ValuesRead
+    ensures { λ r. ⌜ ReadsValues (now (block .entry)) length (now (values .entry)) (now (known .entry)) r (now (values .exit)) (now (known .exit)) ⌝ }
+{
+    if block.len() == 0 {
+        return refused(20, 0);
+    }
+    match form::form_of(block) {
+        Form::ZerosAndOnes => read_string(block, length, values, known),
+        Form::SignedNumbers => read_literals(block, false, length, values, known),
+        Form::XTokens => read_literals(block, true, length, values, known),
+    }
+}
