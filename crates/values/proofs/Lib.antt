@@ -1,2 +1,5 @@
 pub mod Heard
 pub mod Steps
+pub mod Bits
+pub mod Known
+pub mod Says
