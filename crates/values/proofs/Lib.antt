@@ -3,3 +3,5 @@ pub mod Steps
 pub mod Bits
 pub mod Known
 pub mod Says
+pub mod Lists
+pub mod Strings
