@@ -11,8 +11,13 @@ use lib.ListN.{length, getD, take, drop, length-drop, drop-of-length-le}
 use lib.Seq.{drop-cons, drop-drop}
 use Rattle.definitions.specs.Bytes.{lf}
 use Rattle.definitions.specs.Values.{letterV, isWhite, isSolid, frontOf, Item, untagged, token, Spot, front, between, inside, itemsFrom}
-use Rattle.values.specs.Steps.{Found, nothing, line, word, soughtOf, spotOf, onFrom}
-use Rattle.values.proofs.Runs.{front-more, front-none, front-within}
+use Rattle.values.specs.Said.{saidToken, tokenSays}
+use Rattle.values.specs.Steps.{Found, nothing, line, word, soughtOf, spotOf, onFrom, stepBy, stepOf, saidNext, metOf, Ahead}
+use Rattle.values.specs.declared.tokens.Token.{Token}
+use Rattle.values.specs.declared.tokens.Token.the-variants as said
+use Rattle.values.specs.declared.items.Next.{Next}
+use Rattle.values.specs.declared.items.Next.the-variants as next
+use Rattle.values.proofs.Runs.{front-more, front-none, front-within, front-take}
 
 -- ---- one byte
 module _ (p : ℕ) (b : ℕ) (s : List ℕ) where
@@ -78,7 +83,7 @@ inside-on p (b ∷ s) = cases (eqb b lf) (isWhite b) refl refl (inside-on (p + 1
 -- ---- the next item of a list whose first byte has the offset q
 
 -- a token, k bytes on
-record Token (w : Spot) (q : ℕ) (s : List ℕ) (p : ℕ) : Type 0 where
+record TokenOn (w : Spot) (q : ℕ) (s : List ℕ) (p : ℕ) : Type 0 where
   k : ℕ
   place : p ≡ q + k
   within : k < length s
@@ -86,7 +91,7 @@ record Token (w : Spot) (q : ℕ) (s : List ℕ) (p : ℕ) : Type 0 where
   items : itemsFrom w q s ≡ token p (frontOf isSolid (drop k s)) ∷ beyond p (drop k s)
 
 -- a line without `v`, k bytes on
-record Line (w : Spot) (q : ℕ) (s : List ℕ) (p : ℕ) : Type 0 where
+record LineOn (w : Spot) (q : ℕ) (s : List ℕ) (p : ℕ) : Type 0 where
   k : ℕ
   place : p ≡ q + k
   within : k < length s
@@ -94,14 +99,14 @@ record Line (w : Spot) (q : ℕ) (s : List ℕ) (p : ℕ) : Type 0 where
 
 -- a byte more in front, which is passed
 module _ (w v : Spot) (q : ℕ) (b : ℕ) (s : List ℕ) (p : ℕ) (e : itemsFrom w q (b ∷ s) ≡ itemsFrom v (q + 1) s) where
-  token-later : Token v (q + 1) s p → Token w q (b ∷ s) p
+  token-later : TokenOn v (q + 1) s p → TokenOn w q (b ∷ s) p
   token-later t =
       record { k = suc (t .k); place = omega (arith, t .place); within = omega (arith, t .within); some = t .some; items = e ∙ t .items }
 
-  line-later : Line v (q + 1) s p → Line w q (b ∷ s) p
+  line-later : LineOn v (q + 1) s p → LineOn w q (b ∷ s) p
   line-later t = record { k = suc (t .k); place = omega (arith, t .place); within = omega (arith, t .within); items = e ∙ t .items }
 
-token-here : (q b : ℕ) (s : List ℕ) → eqb b lf ≡ false → isWhite b ≡ false → Token between q (b ∷ s) q
+token-here : (q b : ℕ) (s : List ℕ) → eqb b lf ≡ false → isWhite b ≡ false → TokenOn between q (b ∷ s) q
 token-here q b s e f =
     record {
       k = 0;
@@ -113,15 +118,15 @@ token-here q b s e f =
 
 data Meets (w : Spot) (q : ℕ) (s : List ℕ) : Type 0 where
   none : itemsFrom w q s ≡ [] → Meets w q s
-  a-line : (p : ℕ) → Line w q s p → Meets w q s
-  a-token : (p : ℕ) → Token w q s p → Meets w q s
+  a-line : (p : ℕ) → LineOn w q s p → Meets w q s
+  a-token : (p : ℕ) → TokenOn w q s p → Meets w q s
 
 meets-later : (w v : Spot) (q : ℕ) (b : ℕ) (s : List ℕ) → itemsFrom w q (b ∷ s) ≡ itemsFrom v (q + 1) s → Meets v (q + 1) s → Meets w q (b ∷ s)
 meets-later w v q b s e (none h) = none (e ∙ h)
 meets-later w v q b s e (a-line p h) = a-line p (line-later w v q b s p e h)
 meets-later w v q b s e (a-token p h) = a-token p (token-later w v q b s p e h)
 
-line-here : (q b : ℕ) (s : List ℕ) → eqb b letterV ≡ false → Line front q (b ∷ s) q
+line-here : (q b : ℕ) (s : List ℕ) → eqb b letterV ≡ false → LineOn front q (b ∷ s) q
 line-here q b s e = record { k = 0; place = omega arith; within = omega arith; items = front-untagged q b s e }
 
 -- a byte at each spot, and what is met behind it
@@ -149,12 +154,12 @@ meets (b ∷ s) inside q = meets-inside q b s (λ v. meets s v (q + 1)) (eqb b l
 
 -- ---- the same by what is sought
 
-only-token : (w : Spot) (q : ℕ) (s : List ℕ) (p : ℕ) → soughtOf (itemsFrom w q s) ≡ word p → Meets w q s → Token w q s p
+only-token : (w : Spot) (q : ℕ) (s : List ℕ) (p : ℕ) → soughtOf (itemsFrom w q s) ≡ word p → Meets w q s → TokenOn w q s p
 only-token w q s p e (none h) = let z : _≡_ {A = ℕ} 0 1 = cc (rw h at e) in absurd (omega arith)
 only-token w q s p e (a-line r h) = let z : _≡_ {A = ℕ} 0 1 = cc (rw (h .items) at e) in absurd (omega arith)
 only-token w q s p e (a-token r h) = let z : r ≡ p = cc (rw (h .items) at e) in rw z at h
 
-only-line : (w : Spot) (q : ℕ) (s : List ℕ) (p : ℕ) → soughtOf (itemsFrom w q s) ≡ line p → Meets w q s → Line w q s p
+only-line : (w : Spot) (q : ℕ) (s : List ℕ) (p : ℕ) → soughtOf (itemsFrom w q s) ≡ line p → Meets w q s → LineOn w q s p
 only-line w q s p e (none h) = let z : _≡_ {A = ℕ} 0 1 = cc (rw h at e) in absurd (omega arith)
 only-line w q s p e (a-line r h) = let z : r ≡ p = cc (rw (h .items) at e) in rw z at h
 only-line w q s p e (a-token r h) = let z : _≡_ {A = ℕ} 0 1 = cc (rw (h .items) at e) in absurd (omega arith)
@@ -245,3 +250,37 @@ module _ (block : List ℕ) (from : ℕ) (first : Bool) (at : ℕ) (opens : Bool
     pub seeking-token : opens ≡ false → (getD block at 0 ≡ lf → ⊥) → isWhite (getD block at 0) ≡ false → word at ≡ soughtOf (itemsFrom (spotOf first) from (drop from block))
     seeking-token o e f =
         sym (i .same ∙ rw (drop-cons block at 0 h, o) (ap soughtOf (between-solid at (getD block at 0) (drop (suc at) block) (ne-eqb (getD block at 0) lf e) f)))
+
+-- ---- the next step
+
+met-says : (block : List ℕ) (t : Token) (p e : ℕ) → saidNext block (metOf t p e) ≡ stepBy p (onFrom block e) (saidToken t)
+met-says block said.Bad p e = refl
+met-says block said.Beyond p e = refl
+met-says block said.Nothing p e = refl
+met-says block (said.Literal l) p e = refl
+
+met-ahead : (t : Token) (p e from n : ℕ) → from ≤ p → p < e → e ≤ n → Ahead (metOf t p e) from n
+met-ahead said.Bad p e from n f g h = (f, omega arith)
+met-ahead said.Beyond p e from n f g h = (f, omega arith)
+met-ahead said.Nothing p e from n f g h = (f, g, h)
+met-ahead (said.Literal l) p e from n f g h = (f, g, h)
+
+module _ (w : Spot) (block : List ℕ) (from : ℕ) (named : Bool) where
+  -- what the walk's step is to say and be
+  abbrev pub Steps : Next → Type 0
+  Steps r = (saidNext block r ≡ stepOf named (itemsFrom w from (drop from block))) × Ahead r from (length block)
+
+  pub steps-end : itemsFrom w from (drop from block) ≡ [] → Steps next.End
+  steps-end e = (rw e, tt)
+
+  pub steps-line : (p : ℕ) → LineMet w block from p → Steps (next.Refused 20 p)
+  steps-line p m = (rw (m .items), (m .ahead, omega (arith, m .within)))
+
+  pub steps-token : (p n : ℕ) (t : Token) (r : Next) → TokenMet w block from p → n ≡ size block p → saidToken t ≡ tokenSays named (take (p + n - p) (drop p block)) → r ≡ metOf t p (p + n) → Steps r
+  steps-token p n t r m e f g =
+      let k : p + n - p ≡ size block p = omega arith in
+      let text : take (p + n - p) (drop p block) ≡ frontOf isSolid (drop p block) = rw k (front-take isSolid (drop p block)) in
+      rw (g, e) (
+        met-says block t p (p + size block p) ∙ ap (stepBy p (onFrom block (p + size block p))) (f ∙ ap (tokenSays named) text) ∙ rw (m .items),
+        met-ahead t p (p + size block p) from (length block) (m .ahead) (omega (arith, m .some)) (m .fits),
+      )
