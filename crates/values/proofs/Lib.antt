@@ -5,3 +5,5 @@ pub mod Known
 pub mod Says
 pub mod Lists
 pub mod Strings
+pub mod Runs
+pub mod Spots
