@@ -1,4 +1,5 @@
 pub mod Relations
+pub mod Known
 pub mod Literals
 pub mod Sums
 pub mod Counts
