@@ -9,11 +9,11 @@ use lib.ListN.{length, getD, drop, drop-of-length-le}
 use lib.Seq.{drop-cons}
 use Rattle.columns.specs.Parts.{every}
 
-both-left : (x y : Bool) → x && y ≡ true → x ≡ true
+pub both-left : (x y : Bool) → x && y ≡ true → x ≡ true
 both-left true y e = refl
 both-left false y e = e
 
-both-right : (x y : Bool) → x && y ≡ true → y ≡ true
+pub both-right : (x y : Bool) → x && y ≡ true → y ≡ true
 both-right true y e = e
 both-right false y e = absurd (let z : _≡_ {A = ℕ} 0 1 = cc in omega arith)
 

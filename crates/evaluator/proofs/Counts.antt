@@ -10,7 +10,7 @@ use lib.Count.{ones, ones-le}
 use lib.Dec.{eqb}
 use lib.ListN.{length, getD}
 use Rattle.definitions.specs.Meaning.{assigned, trueBelow, onesOf}
-use Rattle.definitions.specs.Evaluate.{within, knownOnes}
+use Rattle.definitions.specs.Evaluate.{knownOnes}
 use Rattle.definitions.proofs.Ones.{true-split, true-alike, onesSummed, ones-counted}
 use Rattle.evaluator.specs.Parts.{knownWord, hasBy, onesBy}
 use Rattle.evaluator.proofs.Known.{bitOf, has-there}

@@ -12,7 +12,7 @@ use lib.Pow.{pow-pos, high, ones-lt, ones-split}
 use Rattle.definitions.specs.Literal.{indexOf}
 use Rattle.definitions.specs.Meaning.{assigned, isKnown}
 use Rattle.definitions.specs.Evaluate.{within}
-use Rattle.columns.proofs.Every.{every-less}
+use Rattle.columns.proofs.Every.{both-left, every-less}
 use Rattle.evaluator.specs.Parts.{knownWord, hasBy, codesCovered}
 
 -- bit k of a word
@@ -20,19 +20,21 @@ abbrev pub bitOf : ℕ → ℕ → Bool
 bitOf x k = eqb (x / 2 ^ k % 2) 1
 
 -- a word of ones has each
-full-bit : (j k : ℕ) → (2 ^ (suc j + k) - 1) / 2 ^ k % 2 ≡ 1
-full-bit j k =
+ones-bit : (j k : ℕ) → (2 ^ (suc j + k) - 1) / 2 ^ k % 2 ≡ 1
+ones-bit j k =
     ap (λ (n : ℕ). n / 2 ^ k % 2) (ones-split (suc j) k)
     ∙ ap (λ (n : ℕ). n % 2) (high (2 ^ suc j - 1) k (ones-lt k))
     ∙ ap (λ (n : ℕ). (n - 1) % 2) (pow-suc 2 j)
     ∙ omega (arith, pow-pos j)
 
+pub full-bit : (k : ℕ) → k < 64 → bitOf (2 ^ 64 - 1) k ≡ true
+full-bit k h =
+    let e : suc (63 - k) + k ≡ 64 = omega arith in
+    ap (λ (n : ℕ). eqb n 1) (ap (λ (n : ℕ). (2 ^ n - 1) / 2 ^ k % 2) (sym e) ∙ ones-bit (63 - k) k)
+
 known-bit : (all : Bool) (ks : List ℕ) (v : ℕ) → bitOf (knownWord all ks (v / 64)) (v % 64) ≡ cond all true (assigned ks v)
 unfolding assigned
-known-bit true ks v =
-    let k = v % 64 in
-    let e : suc (63 - k) + k ≡ 64 = omega arith in
-    ap (λ (n : ℕ). eqb n 1) (ap (λ (n : ℕ). (2 ^ n - 1) / 2 ^ k % 2) (sym e) ∙ full-bit (63 - k) k)
+known-bit true ks v = full-bit (v % 64) (omega arith)
 known-bit false ks v = refl
 
 and-true : (b : Bool) → b && true ≡ b
@@ -56,11 +58,7 @@ module _ (ws ks : List ℕ) (v : ℕ) where
   has-within : (all : Bool) → hasBy all ws ks v ≡ true → within ws v ≡ true
   unfolding isKnown
   has-within true e = e
-  has-within false e = left (within ws v) (assigned ks v) e
-    where
-      left : (x y : Bool) → x && y ≡ true → x ≡ true
-      left true y e = refl
-      left false y e = e
+  has-within false e = both-left (within ws v) (assigned ks v) e
 
 pub covered-within : (all : Bool) (ws ks cs : List ℕ) → codesCovered (hasBy all ws ks) cs ≡ true → codesCovered (within ws) cs ≡ true
 covered-within all ws ks cs e =

@@ -5,4 +5,6 @@ pub mod Sums
 pub mod Counts
 pub mod Answers
 pub mod Meant
+pub mod AllKnown
+pub mod Agree
 pub mod OneAnswer
