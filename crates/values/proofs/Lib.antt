@@ -1,3 +1,4 @@
 pub mod Split
 pub mod Places
 pub mod Bits
+pub mod Marking
