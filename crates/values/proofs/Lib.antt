@@ -7,3 +7,7 @@ pub mod Lists
 pub mod Strings
 pub mod Runs
 pub mod Spots
+pub mod Split
+pub mod Places
+pub mod Bits
+pub mod Marking
