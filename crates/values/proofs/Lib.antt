@@ -9,5 +9,4 @@ pub mod Runs
 pub mod Spots
 pub mod Split
 pub mod Places
-pub mod Bits
 pub mod Marking
