@@ -1,4 +1,5 @@
-/* opb.h: read, normalise, evaluate, write and list OPB files (linear pseudo-Boolean constraints), over columns that the caller lends. Link with libopb.a (x86-64 Linux).
+/* opb.h: read, normalise, evaluate, write and list OPB files (linear pseudo-Boolean constraints), and read a solver's value lines, over columns and words that the caller lends. Link with
+ * libopb.a (x86-64 Linux).
  *
  * An example, which the tests compile and run: a file is read and written again with plain variables only.
  *
@@ -35,10 +36,11 @@
  *   * objective offset for previous objective: 4
  *
  * What the caller owes: each pointer is aligned for its type and valid for as many elements as the length behind it says (NULL with length 0 is fine), and what a call may change (a pointer
- * without `const`) overlaps nothing else lent to the same call. Nothing else is asked: every content of what is lent has an answer. What a call may change may hold anything before.
+ * without `const`) overlaps nothing else lent to the same call. Nothing else is asked: every content of what is lent has an answer. What a call may change may hold anything before; only
+ * opb_values looks at it.
  *
- * What the caller gets: one answer for each input. A refused call changes nothing that it was lent; an accepted one changes only the entries that it counts, from the front. No call keeps a
- * pointer, has a state, allocates, or prints; calls from several threads need no lock.
+ * What the caller gets: one answer for each input. A refused call changes nothing that it was lent; an accepted one changes only the entries that it counts, from the front (opb_values: the
+ * bits of the variables that it meets). No call keeps a pointer, has a state, allocates, or prints; calls from several threads need no lock.
  */
 #ifndef OPB_H
 #define OPB_H
@@ -75,18 +77,19 @@ extern "C" {
 
 /* The greatest length of a file, in bytes. */
 #define OPB_FILE_LIMIT 1073741823
-/* The greatest variable index. */
+/* The greatest variable index; the greatest number of a variable in value lines is one more. */
 #define OPB_INDEX_LIMIT 1073741823
 /* The greatest number behind an `x` in a file. */
 #define OPB_FILE_NUMBER_LIMIT 4294967295
 /* The greatest sum of absolute weights in a row. */
 #define OPB_WEIGHT_LIMIT 9223372036854775807
-/* Words of an assignment behind so many are not looked at. */
+/* In evaluating, words of an assignment behind so many are not looked at. */
 #define OPB_WORD_LIMIT 16777216
 
 /* ---- Refusals: the number, when it is given, and the place that comes with it.
  *
- * S is the offset in the file of the first byte, after blanks, of the statement at fault. A needed number above 18,446,744,073,709,551,615 is given as that one. */
+ * S is the offset in the file of the first byte, after blanks, of the statement at fault; T the offset in a block of value lines of the first byte of the token at fault. A needed number above
+ * 18,446,744,073,709,551,615 is given as that one. */
 
 /* The call did what it promises; the place is 0. */
 #define OPB_ACCEPTED 0
@@ -98,7 +101,7 @@ extern "C" {
 #define OPB_REFUSED_NUMBER 3
 /* No blank after a weight, or no literal there. Place S. */
 #define OPB_REFUSED_LITERAL 4
-/* File number beyond u32, below the first index, or index above its limit. Place S; in writing and listing, the row. */
+/* File number beyond u32, below the first index, or index above its limit. Place S; in writing and listing, the row; in value lines, T. */
 #define OPB_REFUSED_VARIABLE 5
 /* No operator after a sum. Place S. */
 #define OPB_REFUSED_OPERATOR 6
@@ -113,7 +116,7 @@ extern "C" {
 /* Row that no table may hold: kind unknown, terms outside their column, an index above its limit; in writing also a comment outside its lent text, a negative weight or a negative cardinality
  * bound; in evaluating also a comment or a missing row. Place: the row. */
 #define OPB_REFUSED_ROW 11
-/* Variable beyond the assignment. Place: the row. */
+/* Variable beyond the assignment, or not known. Place: the row. In reading value lines: the shorter row of words is too short for the new length. Place: the words needed. */
 #define OPB_REFUSED_ASSIGNMENT 12
 /* Constraint without terms, in writing. Place: the row. */
 #define OPB_REFUSED_EMPTY 13
@@ -121,6 +124,12 @@ extern "C" {
 #define OPB_REFUSED_OUTPUT 14
 /* Comment text with an LF, in writing. Place: the row. */
 #define OPB_REFUSED_COMMENT 15
+/* A block of value lines is empty, or a line of it does not begin with `v`. Place: the offset in the block of that line, 0 for the empty block. */
+#define OPB_REFUSED_LINE 20
+/* A token that is none of its block's form. Place T. */
+#define OPB_REFUSED_TOKEN 21
+/* A variable gets another value than the one known, or than an earlier token of the block gave it. Place T. */
+#define OPB_REFUSED_CONFLICT 22
 
 /* ---- Answers. Where `refusal` is not OPB_ACCEPTED, every field but `place` is 0. */
 
@@ -139,7 +148,15 @@ typedef struct {
     uint64_t length;
 } opb_text;
 
-/* Of a row under an assignment: the sum of a constraint and in `holds` 1 if it holds, else 0; or the value of an objective and 2. In both cases the number of ones in the assignment's words. */
+/* Of an assignment: its length, one past the highest variable index met. */
+typedef struct {
+    uint8_t refusal;
+    uint64_t place;
+    uint64_t length;
+} opb_length;
+
+/* Of a row under an assignment: the sum of a constraint and in `holds` 1 if it holds, else 0; or the value of an objective and 2. In both cases the number of ones in the assignment's words;
+ * where a second row says which variables are known, of the known ones. */
 typedef struct {
     uint8_t refusal;
     uint64_t place;
@@ -189,6 +206,34 @@ opb_value opb_evaluate(const uint8_t *kinds, size_t kinds_length,
                        const int64_t *weights, size_t weights_length,
                        const uint32_t *literals, size_t literals_length,
                        size_t row, const uint64_t *words, size_t words_length);
+
+/* A block of a solver's value lines on top of an assignment: two rows of words, in which variable index v is bit v mod 64 of word v / 64 (`values` has 1 for true, `known` 1 where there is a
+ * value), and a length that the caller keeps: 0 at first, then what was answered.
+ *
+ * Lines are parted by LF and begin with `v`; behind it tokens are parted by white space (bytes 9 to 13 and 32). The block as a whole has one of three forms:
+ *   - an `x` anywhere in it: each token is `x` and a number, with `~` or `-` before it where the variable is false (`v x1 ~x2`);
+ *   - else, zeros and ones alone behind its first byte, with white space around them or not, and not just `0`: one string of the values of the variables from `length` on (`v 10`);
+ *   - else each token is a number, with `-` before it where the variable is false, with `+` or nothing where it is true (`v 1 -2 0`); 0 sets nothing.
+ * Numbers of variables count from 1: `x1` and `1` are variable index 0.
+ *
+ * Changes: each variable met becomes known, with its value; every other bit stays. The length answered is the greater of `length` and one past the highest variable index met. A block may have
+ * any length.
+ * Refusals: 20 for the empty block; line by line 20, then token by token 21, 5, 22; then 12. */
+opb_length opb_values(const uint8_t *block, size_t block_length, uint64_t length,
+                      uint64_t *values, size_t values_length,
+                      uint64_t *known, size_t known_length);
+
+/* One row under an assignment whose variables may be unknown: as opb_evaluate, but a variable whose bit in `known` is 0, or that lies beyond the shorter of both rows, is 12, and the ones are
+ * the known variables that are true. Changes nothing.
+ * Refusals: those of opb_evaluate. */
+opb_value opb_evaluate_known(const uint8_t *kinds, size_t kinds_length,
+                             const size_t *firsts, size_t firsts_length,
+                             const size_t *counts, size_t counts_length,
+                             const int64_t *bounds, size_t bounds_length,
+                             const int64_t *weights, size_t weights_length,
+                             const uint32_t *literals, size_t literals_length,
+                             size_t row, const uint64_t *values, size_t values_length,
+                             const uint64_t *known, size_t known_length);
 
 /* A table's rows as lines of an OPB file; `text` is what comment rows point into (for rows that were read: the file). `plain` 0 writes negated literals as `~x`; any other value is no-negated
  * mode, where a negated literal of weight w is written -w on the plain variable and the bound falls by w, an objective's offset grows by w. An "at most" row is written with each literal

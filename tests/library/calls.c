@@ -173,6 +173,119 @@ static void evaluates(void) {
     check(value_refused(opb_evaluate(COLUMNS(t, 4, 4), 1, first_and_third, 1), OPB_REFUSED_OVERFLOW, 1), "weights above the limit");
 }
 
+/* ---- value lines */
+
+enum { WORDS = 2 };
+
+/* an assignment: x2 is true and x3 false, of the others nothing is known, whatever their bits in the values are */
+typedef struct {
+    uint64_t values[WORDS], known[WORDS];
+} assignment;
+
+static const assignment SOME = {.values = {0xF2, 0xA0}, .known = {6}};
+
+static opb_length read_values(const char *block, uint64_t length, assignment *a, size_t values, size_t known) {
+    return opb_values((const uint8_t *)block, strlen(block), length, a->values, values, a->known, known);
+}
+
+static int is_length(opb_length a, uint64_t length) {
+    return a.refusal == OPB_ACCEPTED && a.place == 0 && a.length == length;
+}
+
+static int length_refused(opb_length a, uint8_t number, uint64_t place) {
+    return a.refusal == number && a.place == place && a.length == 0;
+}
+
+static int has_words(const assignment *a, uint64_t value, uint64_t known) {
+    return a->values[0] == value && a->known[0] == known && a->values[1] == SOME.values[1] && a->known[1] == 0;
+}
+
+/* What each block makes of the first words of SOME, whose length is 3. */
+static void reads_values_of_each_form(void) {
+    static const struct {
+        const char *block;
+        uint64_t length, value, known;
+    } blocks[] = {
+        {"v -1 +2 5 0", 5, 0xF2, 0x17},
+        {"v x1 ~x5\nv -x6 x2", 6, 0xC3, 0x37},
+        {"v 011", 6, 0xF2, 0x3E},
+        {"v 1", 4, 0xFA, 0xE},
+        {"v 0", 3, 0xF2, 6},
+        {"v -0 00\r\n", 3, 0xF2, 6},
+        {"v 1\nv 10", 10, 0x2F3, 0x207},
+        {"v", 3, 0xF2, 6},
+        {"v\t2\v-3\f2\n", 3, 0xF2, 6},
+        {"vx1\n", 3, 0xF3, 7},
+    };
+    for (size_t i = 0; i < sizeof blocks / sizeof *blocks; i++) {
+        assignment a = SOME;
+        check(is_length(read_values(blocks[i].block, 3, &a, WORDS, WORDS), blocks[i].length), blocks[i].block);
+        check(has_words(&a, blocks[i].value, blocks[i].known), "each variable met is known with its value, every other bit stays");
+    }
+    assignment a = SOME;
+    check(is_length(read_values("v 10", 1, &a, WORDS, WORDS), 3) && has_words(&a, 0xF2, 6), "a string at another length, with the values that are known");
+}
+
+static void refuses_values(void) {
+    static const struct {
+        const char *block;
+        uint64_t length;
+        size_t words;
+        uint8_t number;
+        uint64_t place;
+    } blocks[] = {
+        {"", 3, WORDS, OPB_REFUSED_LINE, 0},
+        {"c 1", 3, WORDS, OPB_REFUSED_LINE, 0},
+        {"v 1 2\n\nv 4", 3, WORDS, OPB_REFUSED_LINE, 6},
+        {"v 1 2a\nc", 3, WORDS, OPB_REFUSED_TOKEN, 4},
+        {"v 1\nv x2", 3, WORDS, OPB_REFUSED_TOKEN, 2},
+        {"v x1abc", 3, WORDS, OPB_REFUSED_TOKEN, 2},
+        {"v x1 ~-x2", 3, WORDS, OPB_REFUSED_TOKEN, 5},
+        {"v 1 -", 3, WORDS, OPB_REFUSED_TOKEN, 4},
+        {"v x1 x0 -x1", 3, WORDS, OPB_REFUSED_VARIABLE, 5},
+        {"v x1 x1073741825", 3, WORDS, OPB_REFUSED_VARIABLE, 5},
+        {"v -99999999999999999999", 3, WORDS, OPB_REFUSED_VARIABLE, 2},
+        {"v 01", OPB_INDEX_LIMIT, WORDS, OPB_REFUSED_VARIABLE, 2},
+        {"v 1 -2 -1", 3, WORDS, OPB_REFUSED_CONFLICT, 4},
+        {"v x3", 3, WORDS, OPB_REFUSED_CONFLICT, 2},
+        {"v 00", 1, WORDS, OPB_REFUSED_CONFLICT, 2},
+        {"v 1 -1", 3, 0, OPB_REFUSED_CONFLICT, 4},
+        {"v x129", 3, WORDS, OPB_REFUSED_ASSIGNMENT, 3},
+        {"v 1 -4", 3, 0, OPB_REFUSED_ASSIGNMENT, 1},
+        {"v 0", UINT64_MAX, WORDS, OPB_REFUSED_ASSIGNMENT, 288230376151711744},
+    };
+    for (size_t i = 0; i < sizeof blocks / sizeof *blocks; i++) {
+        assignment a = SOME;
+        check(length_refused(read_values(blocks[i].block, blocks[i].length, &a, blocks[i].words, blocks[i].words), blocks[i].number, blocks[i].place), blocks[i].block);
+        check(memcmp(&a, &SOME, sizeof a) == 0, "a refused block changes no word");
+    }
+}
+
+/* 12 is about the shorter row. */
+static void needs_words_in_both_rows(void) {
+    assignment a = SOME;
+    check(length_refused(read_values("v x65", 3, &a, 1, WORDS), OPB_REFUSED_ASSIGNMENT, 2), "too few values");
+    check(length_refused(read_values("v x65", 3, &a, WORDS, 1), OPB_REFUSED_ASSIGNMENT, 2), "too few known words");
+    check(memcmp(&a, &SOME, sizeof a) == 0, "too few words change none");
+    check(is_length(read_values("v x64", 3, &a, WORDS, 1), 64), "just enough words");
+    check(is_length(opb_values((const uint8_t *)"v", 1, 0, NULL, 0, NULL, 0), 0), "no variable needs no words");
+}
+
+static void evaluates_what_is_known(void) {
+    const uint64_t values[] = {5}, all[] = {7}, two[] = {3, ~(uint64_t)0};
+    table t = blank();
+    read_text(PLAN, 1, &t, ROOM, ROOM);
+    check(is_value(opb_evaluate_known(COLUMNS(t, 4, 4), 1, values, 1, all, 1), 1, 1, 2), "3 x1 -2 ~x2 >= 1 holds, x1 and x3 true");
+    check(is_value(opb_evaluate_known(COLUMNS(t, 4, 4), 3, values, 1, two, 2), 1, 0, 1), "1 x1 < 1 does not, and x3 is not counted");
+    check(is_value(opb_evaluate_known(COLUMNS(t, 4, 4), 2, values, 1, all, 1), 4, 2, 2), "the objective's value where all is known");
+    check(value_refused(opb_evaluate_known(COLUMNS(t, 4, 4), 2, values, 1, two, 2), OPB_REFUSED_ASSIGNMENT, 2), "x3 is not known");
+    check(value_refused(opb_evaluate_known(COLUMNS(t, 4, 4), 2, values, 1, NULL, 0), OPB_REFUSED_ASSIGNMENT, 2), "no known words");
+    check(value_refused(opb_evaluate_known(COLUMNS(t, 4, 4), 2, NULL, 0, all, 1), OPB_REFUSED_ASSIGNMENT, 2), "no values");
+    check(value_refused(opb_evaluate_known(COLUMNS(t, 4, 4), 0, values, 1, all, 1), OPB_REFUSED_ROW, 0), "a comment has no known value");
+    t.weights[2] = INT64_MIN;
+    check(value_refused(opb_evaluate_known(COLUMNS(t, 4, 4), 2, values, 1, two, 2), OPB_REFUSED_OVERFLOW, 2), "weights above the limit before what is not known");
+}
+
 /* ---- writing and listing */
 
 static uint8_t out[512];
@@ -252,7 +365,7 @@ static void refuses_to_list(void) {
 }
 
 int main(void) {
-    check(sizeof(opb_table) == 32 && sizeof(opb_text) == 24 && sizeof(opb_value) == 40, "sizes of the answers");
+    check(sizeof(opb_table) == 32 && sizeof(opb_text) == 24 && sizeof(opb_length) == 24 && sizeof(opb_value) == 40, "sizes of the answers");
     reads_the_plan();
     counts();
     refuses_files();
@@ -261,6 +374,10 @@ int main(void) {
     normalises();
     refuses_to_normalise();
     evaluates();
+    reads_values_of_each_form();
+    refuses_values();
+    needs_words_in_both_rows();
+    evaluates_what_is_known();
     writes();
     refuses_to_write();
     lists();

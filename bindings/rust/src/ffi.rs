@@ -1,6 +1,7 @@
 //! The calls of libopb.a as `include/opb.h` declares them, and for each a safe function. All of this crate's unsafe code.
 //!
 //! The header asks two things of a caller, and the types here give both: a slice's pointer is valid for its length, and what is borrowed mutably overlaps nothing else that is lent.
+use crate::assignment::Assignment;
 use crate::refusal::{Reason, Refusal};
 use crate::table::{Size, Table, Value};
 
@@ -14,6 +15,13 @@ struct OpbTable {
 
 #[repr(C)]
 struct OpbText {
+    refusal: u8,
+    place: u64,
+    length: u64,
+}
+
+#[repr(C)]
+struct OpbLength {
     refusal: u8,
     place: u64,
     length: u64,
@@ -52,6 +60,16 @@ extern "C" {
         kinds: *const u8, kinds_length: usize, firsts: *const usize, firsts_length: usize, counts: *const usize, counts_length: usize,
         bounds: *const i64, bounds_length: usize, weights: *const i64, weights_length: usize, literals: *const u32, literals_length: usize,
         row: usize, words: *const u64, words_length: usize,
+    ) -> OpbValue;
+
+    fn opb_values(
+        block: *const u8, block_length: usize, length: u64, values: *mut u64, values_length: usize, known: *mut u64, known_length: usize,
+    ) -> OpbLength;
+
+    fn opb_evaluate_known(
+        kinds: *const u8, kinds_length: usize, firsts: *const usize, firsts_length: usize, counts: *const usize, counts_length: usize,
+        bounds: *const i64, bounds_length: usize, weights: *const i64, weights_length: usize, literals: *const u32, literals_length: usize,
+        row: usize, values: *const u64, values_length: usize, known: *const u64, known_length: usize,
     ) -> OpbValue;
 
     fn opb_write(
@@ -132,6 +150,31 @@ pub(crate) fn evaluate(t: &Table, row: usize, words: &[u64]) -> Result<Value, Re
             t.kinds.as_ptr(), t.kinds.len(), t.firsts.as_ptr(), t.firsts.len(), t.counts.as_ptr(), t.counts.len(),
             t.bounds.as_ptr(), t.bounds.len(), t.weights.as_ptr(), t.weights.len(), t.literals.as_ptr(), t.literals.len(),
             row, words.as_ptr(), words.len(),
+        )
+    })
+}
+
+/// Answers the new length, which is not yet the assignment's.
+#[rustfmt::skip]
+pub(crate) fn values(block: &[u8], a: &mut Assignment) -> Result<u64, Refusal> {
+    // SAFETY: each pointer and length are of one slice, borrowed for the call; the two rows are different vectors, borrowed mutably, so they overlap neither each other nor the block.
+    let answer = unsafe {
+        opb_values(
+            block.as_ptr(), block.len(), a.length, a.values.as_mut_ptr(), a.values.len(), a.known.as_mut_ptr(), a.known.len(),
+        )
+    };
+    accepted(answer.refusal, answer.place)?;
+    Ok(answer.length)
+}
+
+#[rustfmt::skip]
+pub(crate) fn evaluate_known(t: &Table, row: usize, a: &Assignment) -> Result<Value, Refusal> {
+    // SAFETY: each pointer and length are of one slice, borrowed for the call; nothing is changed.
+    value_of(unsafe {
+        opb_evaluate_known(
+            t.kinds.as_ptr(), t.kinds.len(), t.firsts.as_ptr(), t.firsts.len(), t.counts.as_ptr(), t.counts.len(),
+            t.bounds.as_ptr(), t.bounds.len(), t.weights.as_ptr(), t.weights.len(), t.literals.as_ptr(), t.literals.len(),
+            row, a.values.as_ptr(), a.values.len(), a.known.as_ptr(), a.known.len(),
         )
     })
 }

@@ -1,4 +1,4 @@
-//! OPB files (linear pseudo-Boolean constraints) as tables: read, normalise, evaluate, write and list.
+//! OPB files (linear pseudo-Boolean constraints) as tables: read, normalise, evaluate, write and list; and a solver's value lines as assignments.
 //!
 //! Every call is one of libopb.a, whose answers are proved; this crate lends it vectors and gives its answers Rust's types. Refusals are values, and a refused call changes nothing that it was
 //! lent. `include/opb.h` says of each call what it promises. The archive is looked for in the folder OPB_LIB_DIR, else in target/staticlib of the repository, where `rt staticlib opb` puts it.
@@ -13,11 +13,13 @@
 
 #![deny(unsafe_code)]
 
+mod assignment;
 #[allow(unsafe_code)]
 mod ffi;
 mod refusal;
 mod table;
 
+pub use assignment::Assignment;
 pub use refusal::{Reason, Refusal};
 pub use table::{count, kind, read, Literals, Size, Table, Value};
 

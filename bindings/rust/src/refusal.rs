@@ -21,9 +21,12 @@ pub enum Reason {
     Empty = 13,
     Output = 14,
     Comment = 15,
+    Line = 20,
+    Token = 21,
+    Conflict = 22,
 }
 
-const ALL: [Reason; 15] = [
+const ALL: [Reason; 18] = [
     Reason::FileLength,
     Reason::Statement,
     Reason::Number,
@@ -39,6 +42,9 @@ const ALL: [Reason; 15] = [
     Reason::Empty,
     Reason::Output,
     Reason::Comment,
+    Reason::Line,
+    Reason::Token,
+    Reason::Conflict,
 ];
 
 impl Reason {
@@ -65,10 +71,13 @@ impl Reason {
             Reason::Rows => "the table has no room for the rows",
             Reason::Terms => "the table has no room for the terms",
             Reason::Row => "no table may hold this row (an unknown kind, terms outside their column, an index above its limit; in writing a negative weight or a comment outside its text)",
-            Reason::Assignment => "a variable lies beyond the assignment",
+            Reason::Assignment => "a variable has no value in the assignment, or its words are too few",
             Reason::Empty => "a constraint without terms cannot be written",
             Reason::Output => "the output has no room for the text",
             Reason::Comment => "a comment with a line feed cannot be written",
+            Reason::Line => "no value line begins here (it would begin with `v`)",
+            Reason::Token => "this is no value in the form of these value lines (an `x` in one of them asks for `x1` or `-x1` in all)",
+            Reason::Conflict => "this variable has the other value already",
         }
     }
 
@@ -79,22 +88,25 @@ impl Reason {
             Reason::Statement => "remove a blank line, or begin with `*`, `min:`, a digit, `+` or `-`",
             Reason::Number => "write each number with digits, such as `3 x1 >= -2;`, up to 9223372036854775807",
             Reason::Literal => "write `3 x1` or `3 ~x1`, not `3x1` or `3 1`",
-            Reason::Variable => "compare the variables' numbers with the first index; the greatest is the first index and 1,073,741,823 more, and never above 4,294,967,295",
+            Reason::Variable => "compare the variables' numbers with the first index (1 in value lines); the greatest is the first index and 1,073,741,823 more, and never above 4,294,967,295",
             Reason::Operator => "write `>=`, `<=`, `=`, `>` or `<` behind the last term",
             Reason::Ending => "end it with `;` or a new line, with nothing else between",
             Reason::Overflow => "use smaller units",
             Reason::Rows => "lend columns with so many entries for rows",
             Reason::Terms => "lend columns with so many entries for terms",
             Reason::Row => "mend the row; normalise a table before writing it where weights are negative",
-            Reason::Assignment => "lend more words",
+            Reason::Assignment => "give every variable of the row a value, and lend words for all of them",
             Reason::Empty => "leave the row out, or give it terms",
             Reason::Output => "lend an output of so many bytes",
             Reason::Comment => "write two comments",
+            Reason::Line => "take the solver's `v` lines and no others; there must be one",
+            Reason::Token => "say all values in one way: as `v 1 -2`, as `v x1 -x2` or `v x1 ~x2`, or as `v 10` in one line",
+            Reason::Conflict => "take the value lines of one solution",
         }
     }
 }
 
-/// A refused call. The place is, by reason and call, the offset of a statement in the file, a row, or the count or length needed.
+/// A refused call. The place is, by reason and call, the offset of a statement in the file, that of a line or token in a block of value lines, a row, or the count or length needed.
 #[derive(Clone, Copy, Debug, PartialEq, Eq)]
 pub struct Refusal {
     pub reason: Reason,
@@ -102,11 +114,12 @@ pub struct Refusal {
 }
 
 impl Refusal {
-    /// What `place` is. Of 5 and 8 only the call tells: a byte in reading, a row over a table.
+    /// What `place` is. Of 5, 8 and 12 only the call tells: a byte in reading, a row over a table; of 12 also the words that value lines need.
     fn place_word(&self) -> &'static str {
         match self.reason {
             Reason::Variable | Reason::Overflow => "at byte or row",
-            Reason::Row | Reason::Assignment | Reason::Empty | Reason::Comment => "at row",
+            Reason::Assignment => "at row, or needing words:",
+            Reason::Row | Reason::Empty | Reason::Comment => "at row",
             Reason::Rows | Reason::Terms | Reason::Output => "needing",
             _ => "at byte",
         }

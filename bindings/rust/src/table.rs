@@ -1,4 +1,5 @@
 //! Tables as six vectors, and the calls over them with room made to measure.
+use crate::assignment::Assignment;
 use crate::ffi;
 use crate::refusal::{Reason, Refusal};
 
@@ -139,6 +140,20 @@ impl Table {
     /// One row under an assignment: variable index v is bit v mod 64 of word v / 64.
     pub fn evaluate(&self, row: usize, words: &[u64]) -> Result<Value, Refusal> {
         ffi::evaluate(self, row, words)
+    }
+
+    /// One row under an assignment whose variables may be unknown: such a variable in the row is refusal 12. The ones are the known variables that are true.
+    ///
+    /// ```
+    /// let table = opb::read(b"3 x1 2 x2 <= 4;\n1 x3 >= 1;\n", 1)?;
+    /// let mut assignment = opb::Assignment::new();
+    /// assignment.extend(b"v x1 -x2")?;
+    /// assert_eq!(table.evaluate_known(0, &assignment)?, opb::Value::Constraint { sum: 3, holds: true, ones: 1 });
+    /// assert_eq!(table.evaluate_known(1, &assignment).unwrap_err().reason, opb::Reason::Assignment);
+    /// # Ok::<(), opb::Refusal>(())
+    /// ```
+    pub fn evaluate_known(&self, row: usize, assignment: &Assignment) -> Result<Value, Refusal> {
+        ffi::evaluate_known(self, row, assignment)
     }
 
     /// The rows as lines of an OPB file. Comment rows point into `text`: for rows that were read, the file.

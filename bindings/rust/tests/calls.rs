@@ -1,5 +1,5 @@
 //! Each call of the library: what it answers, each refusal with its place, and that a refused call changes nothing.
-use opb::{count, kind, read, Literals, Reason, Refusal, Size, Table, Value};
+use opb::{count, kind, read, Assignment, Literals, Reason, Refusal, Size, Table, Value};
 
 const PLAN: &[u8] = b"* budget\n3 x1 -2 ~x2 >= 1;\nmin: 4 x3;\n1 x1 < 1\n";
 
@@ -122,6 +122,91 @@ fn a_row_is_evaluated() {
     assert_eq!(one_row(kind::OBJECTIVE, i64::MAX, &[(1, 0)]).evaluate(0, &[1]), refusal(Reason::Overflow, 0));
 }
 
+/// What these blocks say, one after the other.
+fn assignment(blocks: &[&[u8]]) -> Assignment {
+    let mut assignment = Assignment::new();
+    for block in blocks {
+        assignment.extend(block).unwrap();
+    }
+    assignment
+}
+
+/// `1` true, `0` false, `?` not known, for each variable below the length.
+fn told(assignment: &Assignment) -> String {
+    (0..assignment.len()).map(|index| assignment.value(index).map_or('?', |value| if value { '1' } else { '0' })).collect()
+}
+
+#[test]
+fn value_lines_have_three_forms() {
+    let cases: [(&[&[u8]], &str); 12] = [
+        (&[b"v -1 +2 4 0"], "01?1"),
+        (&[b"v x1 ~x2\nv -x4 x1"], "10?0"),
+        (&[b"v 101"], "101"),
+        (&[b"v 101", b"v 1\n", b"v 0"], "1011"),
+        (&[b"v x5", b"v 01"], "????101"),
+        (&[b"v 1"], "1"),
+        (&[b"v 10"], "10"),
+        (&[b"v 0"], ""),
+        (&[b"v -0 00\nv"], ""),
+        (&[b"v 1\nv 10"], "1????????1"),
+        (&[b"v x2\r\nv\t-x1\r\n"], "01"),
+        (&[b"v1 -2"], "10"),
+    ];
+    for (blocks, values) in cases {
+        assert_eq!(told(&assignment(blocks)), values, "{:?}", blocks);
+    }
+    assert!(Assignment::new().is_empty() && Assignment::new().value(0).is_none());
+}
+
+#[test]
+fn each_refusal_of_value_lines_has_its_place_and_changes_nothing() {
+    let before = assignment(&[b"v -1 2"]);
+    let blocks: [(&[u8], Reason, u64); 15] = [
+        (b"", Reason::Line, 0),
+        (b"\n", Reason::Line, 0),
+        (b"v 3\n\nv 4", Reason::Line, 4),
+        (b"v 3 4\nc 5", Reason::Line, 6),
+        (b"v 1\nv x2", Reason::Token, 2),
+        (b"v x1abc", Reason::Token, 2),
+        (b"v 3 - 4", Reason::Token, 4),
+        (b"v 3 4a\nc", Reason::Token, 4),
+        (b"v x3 x0 -x3", Reason::Variable, 5),
+        (b"v x1073741825", Reason::Variable, 2),
+        (b"v 3 -99999999999999999999", Reason::Variable, 4),
+        (b"v 3 -3", Reason::Conflict, 4),
+        (b"v x3 ~x3", Reason::Conflict, 5),
+        (b"v x3\nv x1", Reason::Conflict, 7),
+        (b"v x999 -x2", Reason::Conflict, 7),
+    ];
+    for (block, reason, place) in blocks {
+        let mut after = before.clone();
+        assert_eq!(after.extend(block), refusal(reason, place), "{:?}", block);
+        assert_eq!(after, before);
+    }
+}
+
+#[test]
+fn an_assignment_grows_as_value_lines_need() {
+    let mut assignment = assignment(&[b"v 1 -64"]);
+    assert_eq!((assignment.values(), assignment.known()), (&[1][..], &[1 | 1 << 63][..]));
+    assignment.extend(b"v -65 1000").unwrap();
+    assert_eq!((assignment.len(), assignment.values().len(), assignment.known().len()), (1000, 16, 16));
+    assert_eq!([0, 1, 63, 64, 999, 1000, usize::MAX].map(|index| assignment.value(index)), [Some(true), None, Some(false), Some(false), Some(true), None, None]);
+    assert_eq!((assignment.values()[15], assignment.known()[1]), (1 << 39, 1));
+}
+
+#[test]
+fn a_row_is_evaluated_where_its_variables_are_known() {
+    let table = read(PLAN, 1).unwrap();
+    let known = assignment(&[b"v x1 -x2 x70"]);
+    assert_eq!(table.evaluate_known(1, &known), Ok(Value::Constraint { sum: 1, holds: true, ones: 2 }));
+    assert_eq!(table.evaluate_known(3, &known), Ok(Value::Constraint { sum: 1, holds: false, ones: 2 }));
+    assert_eq!(table.evaluate_known(2, &known), refusal(Reason::Assignment, 2));
+    assert_eq!(table.evaluate_known(2, &assignment(&[b"v 001"])), Ok(Value::Objective { value: 4, ones: 1 }));
+    assert_eq!(table.evaluate_known(1, &Assignment::new()), refusal(Reason::Assignment, 1));
+    assert_eq!(table.evaluate_known(0, &known), refusal(Reason::Row, 0));
+}
+
 #[test]
 fn rows_are_written_in_both_modes() {
     let file = b"* hall\n3 x1 2 x2 <= 4;\nmin: 4 ~x1 1 x3;\n1 x1 = 1;";
@@ -194,10 +279,10 @@ fn no_memory_is_a_refusal() {
 fn refusals_say_number_place_meaning_and_what_to_do() {
     let blank_line = Refusal { reason: Reason::Statement, place: 11 };
     assert_eq!(blank_line.to_string(), "refused (2) at byte 11: no statement begins here (a blank line is none); remove a blank line, or begin with `*`, `min:`, a digit, `+` or `-`");
-    for number in 1..=15 {
+    for number in (1..=15).chain(20..=22) {
         let reason = Reason::of(number).unwrap();
         assert_eq!(reason.number(), number);
         assert!(Refusal { reason, place: 7 }.to_string().starts_with(&format!("refused ({}) ", number)));
     }
-    assert_eq!((Reason::of(0), Reason::of(16)), (None, None));
+    assert_eq!([0, 16, 19, 23].map(Reason::of), [None; 4]);
 }

@@ -1,2 +1,13 @@
 pub mod Heard
 pub mod Lists
+pub mod Steps
+pub mod Bits
+pub mod Known
+pub mod Says
+pub mod Lists
+pub mod Strings
+pub mod Runs
+pub mod Spots
+pub mod Split
+pub mod Places
+pub mod Marking

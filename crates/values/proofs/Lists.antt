@@ -1,11 +1,13 @@
 -- Literals one after the other: what they leave in the rows, the length they reach, and the literals of a string, each over two lists joined.
-use Prim.Native.Nat.{ℕ, suc, _+_, max}
+use Prim.Native.Nat.{ℕ, suc, _+_, _<_, max}
 use mathlib.Core.Path.{_≡_, refl, ap, _∙_}
 use mathlib.Core.Bool.{Bool, true, false, not}
 use mathlib.Core.List.{List, [], _∷_, _++_}
 use native.Mathlib.Omega.{arith}
+use native.Mathlib.Numerals.{add-one}
 use lib.Dec.{eqb}
-use lib.ListN.{length, length-set}
+use lib.ListN.{length, getD, take, length-set}
+use lib.Seq.{take-suc, length-take-le}
 use Rattle.definitions.specs.Literal.{codeOf, indexOf, negated}
 use Rattle.definitions.specs.Values.{zeroDigit, bitMade, valued, marked, lengthAfter, appended}
 
@@ -51,6 +53,13 @@ appended-append n [] t = ap (λ (m : ℕ). appended m t) (omega arith)
 appended-append n (b ∷ s) t =
     let e : n + 1 + length s ≡ n + length (b ∷ s) = omega arith in
     ap (λ l. codeOf (eqb b zeroDigit) n ∷ l) (appended-append (n + 1) s t ∙ ap (λ (m : ℕ). appended (n + 1) s ++ appended m t) e)
+
+-- one digit more
+pub appended-next : (n : ℕ) (s : List ℕ) (i : ℕ) → i < length s → appended n (take (i + 1) s) ≡ appended n (take i s) ++ (codeOf (eqb (getD s i 0) zeroDigit) (n + i) ∷ [])
+unfolding appended
+appended-next n s i h =
+    rw (add-one i, take-suc s i 0 h) (appended-append n (take i s) (getD s i 0 ∷ [])
+    ∙ ap (λ (m : ℕ). appended n (take i s) ++ appended (n + m) (getD s i 0 ∷ [])) (length-take-le i s (omega arith)))
 
 pub length-appended : (n : ℕ) (s : List ℕ) → length (appended n s) ≡ length s
 unfolding appended

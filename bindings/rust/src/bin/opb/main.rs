@@ -1,11 +1,14 @@
-//! The command `opb`: OPB files of full size checked, listed and rewritten over the library's calls. All it adds is to read files, to print, and to speak to a person.
+//! The command `opb`: OPB files of full size checked, listed and rewritten, and solvers' answers evaluated, over the library's calls. All it adds is to read files, to print, and to speak to a person.
 #![forbid(unsafe_code)]
+mod evaluate;
 mod input;
+mod lines;
 mod options;
 mod output;
 mod progress;
 mod report;
 mod tasks;
+mod values;
 
 use output::Status;
 use std::process::ExitCode;

@@ -3,12 +3,14 @@ use opb::Literals;
 use std::ffi::OsString;
 
 pub const HELP: &str = "\
-opb: check, list and rewrite OPB files (linear pseudo-Boolean constraints)
+opb: check, list and rewrite OPB files (linear pseudo-Boolean constraints), and evaluate a
+solver's answer
 
 usage: opb check FILE... [--first N]
        opb list FILE [--first N]
        opb normal FILE [--first N]
        opb rewrite FILE --no-negated|--negated [--first N]
+       opb evaluate PLAN OUTPUT [--first N]
        opb --help
 
 FILE has up to 1,073,741,823 bytes; - is standard input. Behind -- no word is an option.
@@ -29,6 +31,10 @@ normal   Writes the file again with no negative weight: a negative weight w on a
 rewrite  Writes the file again, each row meaning what it meant, as `>=` and `=` rows alone:
          with --negated no weight is negative and negated variables are written `~x`; with
          --no-negated variables are plain, and weights may be negative.
+evaluate Says which rows of PLAN, a file as above, hold under a solver's answer. OUTPUT is what
+         the solver printed, of any length; either of the two may be -. Prints a line for each
+         row but comments, parted by tabs: `ge`, `le` or `eq`, the sum, the bound, and `holds`
+         or `fails`; or `min` and the objective's value.
 
 What is rewritten is normalised first, since only rows without negative weights can be
 written. A `<=` row becomes a `>=` row on the opposite literals. Comments stay. Where an
@@ -39,17 +45,31 @@ like any other and stays; its number is to be added too. Rows that would need a 
 beyond 64 bits are refused, with their line and their row (counted from 0). Nothing is then
 written to standard output; standard error has the refusal, as check says it.
 
-A file is held in memory, with 25 bytes for each row and 12 for each term; normal and rewrite
-hold the rows twice, and list, normal and rewrite also what they print.
+Of OUTPUT, evaluate takes the value lines: those that begin with `v` and stand behind the last
+line of `o` and a number; all that begin with `v`, where none stands behind it. They say the
+values in one of three ways: `v 1 -2`, `v x1 -x2` (or `~x2`), or, all in one line, `v 10`.
+Their numbers count from 1, whatever --first is: `1`, `x1` and the first of zeros and ones are
+the variable that has the first index in PLAN. So with --first 0 the plan's x0 is x1 in value
+lines. A value that is not understood, or is at odds with another, is refused with its line
+and column in OUTPUT, and a row that has a variable without a value with its line in PLAN;
+standard output has nothing then, standard error the refusal. Where a constraint fails,
+standard error says where the first one is. Offset lines are comments: their numbers are to be
+added to an objective's value.
 
-Exit status: 0 accepted, 1 refused, 2 wrong usage or trouble with a file or memory. Of several
-files, the greatest.
+A file is held in memory, with 25 bytes for each row and 12 for each term; normal and rewrite
+hold the rows twice, and list, normal, rewrite and evaluate also what they print. evaluate
+holds OUTPUT and once more its value lines.
+
+Exit status: 0 accepted (evaluate: every constraint holds), 1 refused, 2 wrong usage or trouble
+with a file or memory, 3 a constraint fails. Of several files, the greatest.
 ";
 
 pub enum Task {
     Check,
     List,
     Rewrite(Literals),
+    /// On this solver's output.
+    Evaluate(OsString),
 }
 
 pub struct Order {
@@ -89,14 +109,26 @@ fn sort(mut words: impl Iterator<Item = OsString>) -> Result<Words, String> {
     Ok(sorted)
 }
 
-fn task(name: &str, literals: Option<Literals>) -> Result<Task, String> {
+/// The last of two files, taken away; standard input can be read once.
+fn output_of(files: &mut Vec<OsString>) -> Result<OsString, String> {
+    if files.len() != 2 {
+        return Err("evaluate needs a plan and a solver's output".to_string());
+    }
+    if files.iter().all(|file| file == "-") {
+        return Err("evaluate takes one of plan and output from standard input, not both".to_string());
+    }
+    Ok(files.remove(1))
+}
+
+fn task(name: &str, literals: Option<Literals>, files: &mut Vec<OsString>) -> Result<Task, String> {
     match (name, literals) {
         ("rewrite", Some(literals)) => Ok(Task::Rewrite(literals)),
         ("rewrite", None) => Err("rewrite needs --no-negated or --negated".to_string()),
         ("check", None) => Ok(Task::Check),
         ("list", None) => Ok(Task::List),
         ("normal", None) => Ok(Task::Rewrite(Literals::Negated)),
-        ("check", _) | ("list", _) | ("normal", _) => Err("--no-negated and --negated belong to rewrite".to_string()),
+        ("evaluate", None) => Ok(Task::Evaluate(output_of(files)?)),
+        ("check", _) | ("list", _) | ("normal", _) | ("evaluate", _) => Err("--no-negated and --negated belong to rewrite".to_string()),
         _ => Err(format!("there is no command {}", name)),
     }
 }
@@ -109,8 +141,8 @@ pub fn parse(words: impl Iterator<Item = OsString>) -> Result<Option<Order>, Str
     }
     let mut plain = sorted.plain.into_iter();
     let name = plain.next().ok_or("no command")?;
-    let task = task(&name.to_string_lossy(), sorted.literals)?;
-    let files: Vec<OsString> = plain.collect();
+    let mut files: Vec<OsString> = plain.collect();
+    let task = task(&name.to_string_lossy(), sorted.literals, &mut files)?;
     let first = sorted.first.unwrap_or(1);
     match (&task, files.len()) {
         (_, 0) => Err(format!("{} needs a file", name.to_string_lossy())),

@@ -7,6 +7,7 @@ pub enum Status {
     Accepted = 0,
     Refused = 1,
     Trouble = 2,
+    Fails = 3,
 }
 
 /// To standard error. Where that cannot be written to, nobody is there to be told.

@@ -1,26 +1,11 @@
 //! Refusals as a person needs them.
 use crate::input::Input;
+use crate::lines::{lines, Line};
 use opb::{Reason, Refusal};
 
 /// How many bytes of a line are shown, and how many of them before the place.
 const SHOWN: usize = 72;
 const BEFORE: usize = 24;
-
-/// A line of a file: its number, from 1, its bytes, and the offset of its first.
-struct Line<'a> {
-    number: usize,
-    bytes: &'a [u8],
-    start: usize,
-}
-
-fn lines(file: &[u8]) -> impl Iterator<Item = Line<'_>> {
-    let mut start = 0;
-    file.split_inclusive(|byte| *byte == b'\n').enumerate().map(move |(i, bytes)| {
-        let line = Line { number: i + 1, bytes, start };
-        start += bytes.len();
-        line
-    })
-}
 
 /// The line that a byte of the file lies in.
 fn line_at(file: &[u8], place: usize) -> Option<Line<'_>> {
@@ -59,6 +44,10 @@ fn excerpt(line: &Line, at: usize) -> (String, usize) {
     (format!("{}{}{}", number, part, more), left)
 }
 
+fn not_enough(name: &str, refusal: &Refusal, what: &str) -> String {
+    format!("{}: there is not enough memory for {} {}\n", name, refusal.place, what)
+}
+
 /// What cannot be had is memory: the command lends as much room as is needed.
 fn no_memory(name: &str, refusal: &Refusal) -> Option<String> {
     let what = match refusal.reason {
@@ -67,7 +56,7 @@ fn no_memory(name: &str, refusal: &Refusal) -> Option<String> {
         Reason::Output => "bytes of output",
         _ => return None,
     };
-    Some(format!("{}: there is not enough memory for {} {}\n", name, refusal.place, what))
+    Some(not_enough(name, refusal, what))
 }
 
 fn message(name: &str, refusal: &Refusal, place: &str, text: &str) -> String {
@@ -92,16 +81,50 @@ pub fn of_file(input: &Input, refusal: &Refusal) -> String {
     }
 }
 
+/// Where a row of an accepted file is, in words, and its line.
+fn row_place(input: &Input, first: u32, row: u64) -> (String, String) {
+    match line_of_row(&input.bytes, first, row) {
+        Some(line) => (format!(" at line {} (row {}, counted from 0)", line.number, row), format!("{}\n", excerpt(&line, 0).0)),
+        None => (format!(" at row {} (counted from 0)", row), String::new()),
+    }
+}
+
 /// Of a row of an accepted file that cannot be rewritten.
 pub fn of_row(input: &Input, first: u32, refusal: &Refusal) -> String {
     if let Some(text) = no_memory(&input.name, refusal) {
         return text;
     }
-    match line_of_row(&input.bytes, first, refusal.place) {
-        Some(line) => {
-            let place = format!(" at line {} (row {}, counted from 0)", line.number, refusal.place);
-            message(&input.name, refusal, &place, &format!("{}\n", excerpt(&line, 0).0))
-        }
-        None => message(&input.name, refusal, &format!(" at row {} (counted from 0)", refusal.place), ""),
-    }
+    let (place, text) = row_place(input, first, refusal.place);
+    message(&input.name, refusal, &place, &text)
+}
+
+/// What a variable is called in the plan; and in value lines, where its number is another there.
+fn variable(index: u32, first: u32) -> String {
+    let (in_plan, in_values) = (u64::from(index) + u64::from(first), u64::from(index) + 1);
+    let other = if in_plan == in_values { String::new() } else { format!(" (x{} in value lines)", in_values) };
+    format!("x{}{}", in_plan, other)
+}
+
+/// Of a row that cannot be evaluated, with the variable that has no value.
+pub fn of_unknown(input: &Input, first: u32, refusal: &Refusal, unknown: Option<u32>) -> String {
+    let (place, text) = row_place(input, first, refusal.place);
+    let unknown = unknown.map_or(String::new(), |index| format!("  {} has no value\n", variable(index, first)));
+    message(&input.name, refusal, &place, &(text + &unknown))
+}
+
+/// Of the constraints that fail, with the first of them.
+pub fn of_failing(input: &Input, first: u32, row: u64, failing: usize, constraints: usize) -> String {
+    let (place, text) = row_place(input, first, row);
+    format!("{}: constraints that fail: {} of {}, the first{}\n{}", input.name, failing, constraints, place, text)
+}
+
+/// Of an output without value lines.
+pub fn no_values(output: &Input, refusal: &Refusal) -> String {
+    let advice = "see whether the solver found a solution, and let it print its values";
+    format!("{}: refused ({}): the output has no value lines (lines that begin with `v`)\n  what to do: {}\n", output.name, refusal.reason.number(), advice)
+}
+
+/// Of values that need more words than can be had.
+pub fn no_words(output: &Input, refusal: &Refusal) -> String {
+    not_enough(&output.name, refusal, "words of values")
 }

@@ -1,23 +1,27 @@
 //! What each command does with a file.
+use crate::evaluate::evaluate;
 use crate::input::{self, Input};
 use crate::options::{Order, Task};
 use crate::output::{print, say, Status};
 use crate::progress::Progress;
 use crate::report;
 use opb::{kind, Literals, Reason, Refusal, Table};
+use std::ffi::OsStr;
 
 pub fn run(order: &Order) -> Status {
     let statuses = order.files.iter().map(|file| {
         let progress = Progress::of(&input::name_of(file));
-        match input::load(file, &progress) {
-            Ok(input) => on_file(order, &input, &progress),
-            Err(error) => {
-                say(&format!("opb: {}: {}", input::name_of(file), error));
-                Status::Trouble
-            }
-        }
+        loaded(file, input::PLAN, &progress).map_or_else(|trouble| trouble, |input| on_file(order, &input, &progress))
     });
     statuses.max().unwrap_or(Status::Accepted)
+}
+
+/// A file, or so much of it; or the trouble with it, said.
+pub fn loaded(file: &OsStr, most: u64, progress: &Progress) -> Result<Input, Status> {
+    input::load(file, most, progress).map_err(|error| {
+        say(&format!("opb: {}: {}", input::name_of(file), error));
+        Status::Trouble
+    })
 }
 
 fn on_file(order: &Order, input: &Input, progress: &Progress) -> Status {
@@ -27,18 +31,19 @@ fn on_file(order: &Order, input: &Input, progress: &Progress) -> Status {
         (Task::Check, Ok(table)) => print(accepted(input, &table, first).as_bytes()),
         (Task::List, Ok(table)) => list(input, &table, first),
         (Task::Rewrite(literals), Ok(table)) => rewrite(input, table, first, *literals, progress),
+        (Task::Evaluate(output), Ok(table)) => evaluate(input, &table, first, output, progress),
         (task, Err(refusal)) => refused_file(task, input, &refusal),
     }
 }
 
-fn status_of(refusal: &Refusal) -> Status {
+pub fn status_of(refusal: &Refusal) -> Status {
     match refusal.reason {
         Reason::Rows | Reason::Terms | Reason::Output => Status::Trouble,
         _ => Status::Refused,
     }
 }
 
-/// check and list answer with the refusal; of rewriting it is not the output.
+/// check and list answer with the refusal; what rewriting and evaluating print is lines, or nothing.
 fn refused_file(task: &Task, input: &Input, refusal: &Refusal) -> Status {
     let message = report::of_file(input, refusal);
     let status = status_of(refusal);

@@ -1,0 +1,100 @@
+//! What a solver's output says of a plan.
+use crate::input::{self, Input};
+use crate::output::{print, say, Status};
+use crate::progress::Progress;
+use crate::tasks::{loaded, status_of};
+use crate::{report, values};
+use opb::{kind, Assignment, Reason, Refusal, Table, Value};
+use std::ffi::OsStr;
+use std::fmt::Write;
+
+/// A line for each row that has a value; how many constraints there are, and the rows of those that fail.
+#[derive(Default)]
+struct Answer {
+    lines: String,
+    constraints: usize,
+    failing: Vec<usize>,
+}
+
+pub fn evaluate(plan: &Input, table: &Table, first: u32, output: &OsStr, progress: &Progress) -> Status {
+    let output = match loaded(output, input::OUTPUT, &Progress::of(&input::name_of(output))) {
+        Ok(output) => output,
+        Err(trouble) => return trouble,
+    };
+    let mut assignment = Assignment::new();
+    if let Err(refusal) = assignment.extend(&values::block(&output.bytes)) {
+        return refused_values(&output, &refusal);
+    }
+    match progress.during("evaluating", plan.bytes.len(), || answer(table, &assignment)) {
+        Ok(answer) => tell(plan, first, &answer),
+        Err(refusal) => {
+            let unknown = unknown(table, refusal.place as usize, &assignment);
+            say(report::of_unknown(plan, first, &refusal, unknown).trim_end());
+            status_of(&refusal)
+        }
+    }
+}
+
+/// The assignment grows as it must, so 12 is about memory. The block has no other lines than value lines, so 20 is that there is none.
+fn refused_values(output: &Input, refusal: &Refusal) -> Status {
+    let (message, status) = match refusal.reason {
+        Reason::Assignment => (report::no_words(output, refusal), Status::Trouble),
+        Reason::Line => (report::no_values(output, refusal), Status::Refused),
+        _ => {
+            let place = values::place_in(&output.bytes, refusal.place).unwrap_or(refusal.place);
+            (report::of_file(output, &Refusal { place, ..*refusal }), Status::Refused)
+        }
+    };
+    say(message.trim_end());
+    status
+}
+
+fn answer(table: &Table, assignment: &Assignment) -> Result<Answer, Refusal> {
+    let mut answer = Answer::default();
+    for row in (0..table.kinds.len()).filter(|row| table.kinds[*row] != kind::COMMENT) {
+        answer.add(table, row, table.evaluate_known(row, assignment)?);
+    }
+    Ok(answer)
+}
+
+impl Answer {
+    fn add(&mut self, table: &Table, row: usize, value: Value) {
+        // a string takes whatever is written to it
+        let _ = match value {
+            Value::Objective { value, .. } => writeln!(self.lines, "min\t{}", value),
+            Value::Constraint { sum, holds, .. } => {
+                self.constraints += 1;
+                if !holds {
+                    self.failing.push(row);
+                }
+                writeln!(self.lines, "{}\t{}\t{}\t{}", word(table.kinds[row]), sum, table.bounds[row], if holds { "holds" } else { "fails" })
+            }
+        };
+    }
+}
+
+/// A constraint's kind, as the listing says it.
+fn word(kind: u8) -> &'static str {
+    match kind {
+        kind::AT_LEAST => "ge",
+        kind::AT_MOST => "le",
+        _ => "eq",
+    }
+}
+
+/// The lines are the answer; where a constraint fails, standard error says where the first is.
+fn tell(plan: &Input, first: u32, answer: &Answer) -> Status {
+    match (print(answer.lines.as_bytes()), answer.failing.first()) {
+        (Status::Accepted, Some(row)) => {
+            say(report::of_failing(plan, first, *row as u64, answer.failing.len(), answer.constraints).trim_end());
+            Status::Fails
+        }
+        (status, _) => status,
+    }
+}
+
+/// The index of the row's first variable that has no value.
+fn unknown(table: &Table, row: usize, assignment: &Assignment) -> Option<u32> {
+    let terms = &table.literals[table.firsts[row]..][..table.counts[row]];
+    terms.iter().map(|literal| literal / 2).find(|index| assignment.value(*index as usize).is_none())
+}

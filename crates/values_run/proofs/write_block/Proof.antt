@@ -1,0 +1,47 @@
+-- `values_run::write_block` is safe and ends: the place stays within the block. Assumes nothing.
+use Prim.Native.Nat.{_-_, _≤_}
+use lib.ListN.{length}
+use borrow.Author.Needs.{needs}
+use Rattle.values_run.proofs.write_block.Statement.{statement}
+use Rattle.values_run.proofs.write_block.Tie as tie
+
+abbrev Inv-loop : tie.InvT-loop
+Inv-loop block i₀ i = i ≤ length block
+
+abbrev μ-loop : tie.MeasureT-loop
+μ-loop block i₀ i = length block - i
+
+loop-holds : tie.Need-loop-holds Inv-loop μ-loop
+loop-holds c = search needs
+
+shared-slice-read-write-byte : tie.Need-shared-slice-read-write-byte Inv-loop μ-loop
+shared-slice-read-write-byte c = search needs
+
+write-byte-requires : tie.Need-write-byte-requires Inv-loop μ-loop
+write-byte-requires c κs = search needs
+
+add-i : tie.Need-add-i Inv-loop μ-loop
+add-i c = search needs
+
+loop-less : tie.Need-loop-less Inv-loop μ-loop
+loop-less c = search needs
+
+loop-again : tie.Need-loop-again Inv-loop μ-loop
+loop-again c = search needs
+
+returns : tie.Need-returns Inv-loop μ-loop
+returns c = search needs
+
+pub write-block-spec : {M : Type 1} → statement M
+write-block-spec =
+    tie.close
+    (tie.spec
+    Inv-loop
+    μ-loop
+    loop-holds
+    shared-slice-read-write-byte
+    write-byte-requires
+    add-i
+    loop-less
+    loop-again
+    returns)
