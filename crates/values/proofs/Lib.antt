@@ -1,2 +1,6 @@
 pub mod Lists
+pub mod Runs
+pub mod Spots
 pub mod Strings
+pub mod Blocks
+pub mod Checks
