@@ -4,3 +4,5 @@ pub mod Spots
 pub mod Strings
 pub mod Blocks
 pub mod Checks
+pub mod Runs
+pub mod Spots
