@@ -6,3 +6,6 @@ pub mod Blocks
 pub mod Checks
 pub mod Runs
 pub mod Spots
+pub mod Bits
+pub mod Known
+pub mod Says
