@@ -1,7 +1,7 @@
 -- A block whose form is one string: white space, zeros and ones, white space. What is met in it is that string, or a line without `v`, and behind the string only white space stands.
-use Prim.Native.Nat.{ℕ, suc, _+_, _-_, _≤_, _<_}
+use Prim.Native.Nat.{ℕ, suc, _+_}
 use mathlib.Core.Path.{_≡_, refl, sym, ap, _∙_}
-use mathlib.Core.Bool.{Bool, true, false, cond, not, _&&_, _||_}
+use mathlib.Core.Bool.{Bool, true, false}
 use mathlib.Core.List.{List, [], _∷_}
 use native.Mathlib.Omega.{arith}
 use borrow.Author.Tests.{eqb-true}
@@ -9,13 +9,12 @@ use lib.Dec.{eqb}
 use lib.ListN.{length, drop}
 use lib.Seq.{drop-drop}
 use Rattle.definitions.specs.Bytes.{lf, letterX}
-use Rattle.definitions.specs.Values.{letterV, isWhite, isSolid, isBit, frontOf, behind, among, onlyBits, justZero, formOf, Item, untagged, token, front, between, itemsFrom}
-use Rattle.definitions.specs.declared.Form.{Form}
+use Rattle.definitions.specs.Values.{letterV, isWhite, isSolid, isBit, frontOf, behind, among, onlyBits, formOf, front, between, itemsFrom}
 use Rattle.definitions.specs.declared.Form.the-variants.{SignedNumbers, ZerosAndOnes, XTokens}
-use Rattle.values.specs.Steps.{Found, nothing, line, word, spotOf, soughtOf, onFrom}
+use Rattle.values.specs.Steps.{line, word, spotOf, soughtOf, onFrom}
 use Rattle.values.specs.Strings.{textAt}
 use Rattle.values.proofs.Runs.{front-more, front-none}
-use Rattle.values.proofs.Spots.{front-v, front-untagged, between-lf, between-white, between-solid}
+use Rattle.values.proofs.Spots.{lf-white, front-v, front-untagged, between-lf, between-white, between-solid}
 
 -- ---- what stands behind a run
 module _ (t : ℕ → Bool) (b : ℕ) (s : List ℕ) where
@@ -42,9 +41,6 @@ bit-solid b e = cases (eqb b 48) (eqb b 49) refl refl
     cases true y f g = rw (eqb-true b 48 f)
     cases false true f g = rw (eqb-true b 49 g)
     cases false false f g = let z : true ≡ false = sym e ∙ rw (f, g) in let y : _≡_ {A = ℕ} 0 1 = cc in absurd (omega arith)
-
-lf-white : (b : ℕ) → eqb b lf ≡ true → isWhite b ≡ true
-lf-white b e = rw (eqb-true b lf e)
 
 white-first : (b : ℕ) (s : List ℕ) → AllWhite (b ∷ s) → isWhite b ≡ true
 white-first b s h = cases (isWhite b) refl

@@ -2,14 +2,14 @@
 use Prim.Native.Nat.{ℕ, _+_, _-_, _≤_, _<_}
 use mathlib.Core.Path.{_≡_, refl, sym, ap, _∙_}
 use mathlib.Core.Bool.{Bool, true, false, not}
-use mathlib.Core.List.{List, [], _∷_, _++_}
+use mathlib.Core.List.{List, [], _∷_}
 use native.Mathlib.Omega.{arith}
 use borrow.Author.Tests.{leb-true, not-true, not-false}
 use lib.Dec.{leb}
 use lib.ListN.{length, take, drop, length-drop}
 use Rattle.definitions.specs.Limits.{indexLimit}
 use Rattle.definitions.specs.Refusal.{refusal}
-use Rattle.definitions.specs.Table.{Outcome, refused, accepted}
+use Rattle.definitions.specs.Table.{refused, accepted}
 use Rattle.definitions.specs.Values.{isSolid, frontOf, formOf, Item, untagged, token, front, itemsFrom, appended, bitsToken, anyConflict, hear}
 use Rattle.definitions.specs.declared.Form.{Form}
 use Rattle.definitions.specs.declared.Form.the-variants.{ZerosAndOnes}

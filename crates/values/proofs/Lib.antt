@@ -1,11 +1,9 @@
-pub mod Lists
-pub mod Runs
-pub mod Spots
-pub mod Strings
-pub mod Blocks
-pub mod Checks
 pub mod Runs
 pub mod Spots
 pub mod Bits
 pub mod Known
 pub mod Says
+pub mod Lists
+pub mod Strings
+pub mod Blocks
+pub mod Checks

@@ -8,12 +8,6 @@ use lib.ListN.{length}
 use Rattle.values.proofs.Checks.{end-within, is-beyond, text-fits, is-conflict, is-behind}
 use Rattle.values.proofs.string.check_at.Statement.{statement}
 use Rattle.values.proofs.string.check_at.Tie as tie
-use Rattle.values.proofs.string.check_at.Reads as reads
-use Rattle.values.proofs.string.check_at.Lts as lts
-use Rattle.values.proofs.form.solid_run.Reads as solid-run-reads
-use Rattle.values.proofs.string.check_behind.Reads as check-behind-reads
-use Rattle.values.proofs.string.fits.Reads as fits-reads
-use Rattle.values.proofs.string.string_conflicts.Reads as string-conflicts-reads
 
 -- the end of the token lies within the block
 within : (c : tie.After-solid-run) → let s = c .before .before .before .before .before in s .args .place + c .solid-run .result ≤ length (now (s .args .block))
