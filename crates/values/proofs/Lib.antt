@@ -1,5 +1,7 @@
 pub mod Heard
 pub mod Steps
+pub mod Runs
+pub mod Spots
 pub mod Bits
 pub mod Known
 pub mod Says
@@ -10,3 +12,5 @@ pub mod Spots
 pub mod Split
 pub mod Places
 pub mod Marking
+pub mod Blocks
+pub mod Checks
