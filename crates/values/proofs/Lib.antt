@@ -7,8 +7,6 @@ pub mod Known
 pub mod Says
 pub mod Lists
 pub mod Strings
-pub mod Runs
-pub mod Spots
 pub mod Split
 pub mod Places
 pub mod Marking
