@@ -12,3 +12,4 @@ pub mod Places
 pub mod Marking
 pub mod Blocks
 pub mod Checks
+pub mod Reading
