@@ -13,11 +13,11 @@ use Rattle.definitions.specs.Number.{leading, value}
 use Rattle.definitions.specs.Bytes.{plus, minus, tilde, letterX}
 use Rattle.definitions.specs.Limits.{fileNumberLimit}
 use Rattle.definitions.specs.Literal.{codeOf, index, isIndex}
-use Rattle.definitions.specs.Lists.{AllOf}
+
 use Rattle.definitions.specs.Values.{Item, untagged, token, wholeNumber, literalFor, signedFor, signedToken, namedVariable, xToken, conflicts, anyConflict, hear, literalsOf}
 use Rattle.values.specs.Said.{tokenSays, formBy}
 use Rattle.values.specs.Flat.{Placed, placed, codeIn, saidBy, stopOf}
-use Rattle.values.specs.Windows.{conflictAt}
+use Rattle.values.specs.Windows.{conflictAt, PlacesBelow}
 
 -- ---- a token is refused with 21 or 5, never with 0
 
@@ -196,7 +196,7 @@ module _ (ws ks : List ℕ) where
           let q = conflict-later x xs heard (stop .place) e in
           flatly-later x xs heard stop e ∙ f (rw q at h) ∙ ap (λ (p : ℕ). refused (refusal 22 p)) (sym q)
 
-  pub flatly-fine : (stop : Refusal) (xs : List Placed) (heard : List ℕ) → AllOf (λ x. x .place < stop .place) xs
+  pub flatly-fine : (stop : Refusal) (xs : List Placed) (heard : List ℕ) → PlacesBelow (stop .place) xs
       → stop .place ≤ conflictAt ws ks heard (stop .place) xs → flatly ws ks heard xs stop ≡ stopped (heard ++ map codeIn xs) stop
   unfolding flatly conflictAt
   flatly-fine stop [] heard a h = rw (append-nil heard)

@@ -53,7 +53,7 @@ module _ (p : ℕ) (b : ℕ) (s : List ℕ) where
   unfolding itemsFrom
   inside-solid e f = rw (e, f, itemsFrom)
 
-lf-white : (b : ℕ) → eqb b lf ≡ true → isWhite b ≡ true
+pub lf-white : (b : ℕ) → eqb b lf ≡ true → isWhite b ≡ true
 lf-white b e = rw (eqb-true b lf e)
 
 -- ---- behind a token

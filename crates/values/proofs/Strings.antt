@@ -1,5 +1,5 @@
 -- One string of zeros and ones: its variables are all different, so that only the known words conflict with it; and in a block of that form nothing else is met but a line without `v`.
-use Prim.Native.Nat.{ℕ, suc, _+_, _-_, _*_, _/_, _%_, _≤_, _<_}
+use Prim.Native.Nat.{ℕ, suc, _+_, _-_, _≤_, _<_}
 use mathlib.Core.Path.{_≡_, refl, sym, ap, _∙_}
 use mathlib.Core.Bool.{Bool, true, false, not, _&&_, _||_}
 use mathlib.Core.List.{List, [], _∷_, _++_}
@@ -123,6 +123,6 @@ module _ (ws ks : List ℕ) (n : ℕ) (s : List ℕ) where
         let f = sym o ∙ t in
         let l = appended (n + i + 1) (drop (suc i) s) in
         let q : anyConflict ws ks (appended n (take i s)) (c ∷ l) ≡ anyConflict ws ks (appended n (take i s) ++ (c ∷ [])) l =
-            conflict-passed ws ks (appended n (take i s)) c l f none-opposite in
+        conflict-passed ws ks (appended n (take i s)) c l f none-opposite in
         let r : l ≡ appended (n + (i + 1)) (drop (i + 1) s) = rw (add-one i) (ap (λ (m : ℕ). appended m (drop (suc i) s)) (omega arith)) in
         record { within = omega arith; left = next ∙ q ∙ ap (λ (x : List ℕ). anyConflict ws ks x l) (sym heard-next) ∙ ap (anyConflict ws ks (appended n (take (i + 1) s))) r }

@@ -1,6 +1,5 @@
 -- `string::literal_at` meets its contract: a variable within the limit has both literals. Assumes nothing.
 use mathlib.Core.Path.{_≡_, sym, ap, _∙_}
-use native.Mathlib.Omega.{arith}
 use borrow.Author.Needs.{needs}
 use lib.Dec.{eqb}
 use Rattle.definitions.specs.Literal.{codeOf, codeFor}
@@ -9,11 +8,6 @@ use Rattle.symbols.proofs.Conversions.{accepted, no-refusal, literal-within}
 use Rattle.symbols.specs.Said.{saidLit}
 use Rattle.values.proofs.string.literal_at.Statement.{statement}
 use Rattle.values.proofs.string.literal_at.Tie as tie
-use Rattle.values.proofs.string.literal_at.Reads as reads
-use Rattle.values.proofs.string.literal_at.Lts as lts
-use Rattle.symbols.proofs.types.Lit.of_code.Reads as of-code-reads
-use Rattle.symbols.proofs.types.Var.lit.Reads as lit-reads
-use Rattle.symbols.proofs.types.Var.of_index.Reads as of-index-reads
 
 cast-of-index : tie.Need-cast-of-index
 cast-of-index c = search needs
