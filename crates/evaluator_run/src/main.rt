@@ -374,7 +374,7 @@ fn single_part(name: &[u8], kind: u8, bound: i64, weight: i64, code: u32, values
     part(name, kind, bound, &[weight], &[code], &[values], &[known]);
 }
 
-fn order_parts() {
+fn objective_parts() {
     single_part(
         b"objective 4 x3 with offset 10, x3 known",
         4,
@@ -403,6 +403,9 @@ fn order_parts() {
         1,
         0,
     );
+}
+
+fn other_parts() {
     single_part(b"the least on x1, x1 unknown", 1, 0, LEAST, 0, 0, 0);
     single_part(b"code 2147483648, all known", 1, 0, 1, 2147483648, 1, ALL);
     single_part(b"kind 5, a clause, all known", 5, 1, 1, 0, 1, ALL);
@@ -450,6 +453,7 @@ fn main() {
     unevens();
     pair_parts();
     word_parts();
-    order_parts();
+    objective_parts();
+    other_parts();
     table_parts();
 }
