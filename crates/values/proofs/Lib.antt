@@ -1,2 +1,3 @@
 pub mod Runs
 pub mod Spots
+pub mod Forms

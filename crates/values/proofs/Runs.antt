@@ -61,7 +61,7 @@ module _ (t : ℕ → Bool) (s : List ℕ) (i : ℕ) (p : Passed t s i) where
     pub passed-more : t (getD s i 0) ≡ true → Passed t s (i + 1)
     passed-more e =
         let z : length (frontOf t (drop i s)) ≡ suc (length (frontOf t (drop (suc i) s))) =
-            rw (drop-cons s i 0 h, front-more t (getD s i 0) (drop (suc i) s) e) in
+        rw (drop-cons s i 0 h, front-more t (getD s i 0) (drop (suc i) s) e) in
         rw add-one (record { within = h; count = omega (arith, p .count) })
 
 -- ---- a number that is not among the first i, for the loop of `has_x`
