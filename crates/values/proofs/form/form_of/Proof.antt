@@ -1,6 +1,5 @@
 -- `values::form_of` meets its contract: an `x`, an empty block, a string, else numbers. Assumes nothing.
-use mathlib.Core.Path.{_≡_, sym, ap, _∙_}
-use native.Mathlib.Omega.{arith}
+use mathlib.Core.Path.{sym, ap, _∙_}
 use borrow.Author.Needs.{needs}
 use denote.Ref.{now}
 use Rattle.definitions.proofs.Parts.{part-is}
