@@ -13,9 +13,4 @@ pub mod Marking
 pub mod Blocks
 pub mod Checks
 pub mod Reading
-pub mod Runs
-pub mod Spots
 pub mod Forms
-pub mod Bits
-pub mod Known
-pub mod Says
