@@ -19,7 +19,8 @@ use Rattle.definitions.specs.Text as text
 use Rattle.definitions.specs.Table.{Table, Outcome, refused, accepted, fitted, Entry, entries, Sort, remark, clause, unknown, weighted, cardinality, sortOf, onRow, rowByRow, andThen, lineBy, lineIn}
 use Rattle.definitions.specs.File.{linesOf, statements, file, reading}
 use Rattle.definitions.specs.Normal.{normalLine, normalIn, normalising}
-use Rattle.definitions.specs.Evaluate.{foundBy, found, foundIn, frontBy, onPlace, evaluating}
+use Rattle.definitions.specs.Meaning.{Assignment, assigned, onesOf, isKnown}
+use Rattle.definitions.specs.Evaluate.{foundBy, found, foundIn, frontBy, onPlace, evaluatingBy, within, evaluating, knownOnes, evaluatingKnown}
 use Rattle.definitions.specs.Write.{Item, say, line, itemText, itemBy, itemIn, rowAllowed, allowed, writtenIn, fittedText, textOf, writing}
 use Rattle.definitions.specs.House.{listing, listedLine, listedEntry, listedIn, listingTable}
 use Rattle.definitions.specs.declared.Options.{Options}
@@ -346,31 +347,43 @@ normalising-in t o = fitted-in o (rowByRow (normalIn t) 0 (entries t)) (rows-in 
 
 -- ---- evaluating
 
-found-by-in : (k : Kind) (ws : List ℕ) (r : Row) → inChecked (foundBy k ws r) ≡ true
-unfolding inChecked
-found-by-in atLeast ws r = refl
-found-by-in atMost ws r = refl
-found-by-in equal ws r = refl
-found-by-in objective ws r = simp (checked-cond, both)
+module _ (has : ℕ → Bool) (a : Assignment) (ones : ℕ) where
+  found-by-in : (k : Kind) (r : Row) → inChecked (foundBy k a ones r) ≡ true
+  unfolding inChecked
+  found-by-in atLeast r = refl
+  found-by-in atMost r = refl
+  found-by-in equal r = refl
+  found-by-in objective r = simp (checked-cond, both)
 
-found-in : (ws : List ℕ) (l : Line) → inChecked (foundIn ws l) ≡ true
-unfolding found inChecked
-found-in ws (comment f n b) = refl
-found-in ws (row r) = simp (checked-cond, found-by-in, both)
+  found-in : (l : Line) → inChecked (foundIn has a ones l) ≡ true
+  unfolding found inChecked
+  found-in (comment f n b) = refl
+  found-in (row r) = simp (checked-cond, found-by-in, both)
 
-front-in : (es : List Entry) (t : Table) (ws : List ℕ) → inChecked (frontBy es t ws) ≡ true
-unfolding inChecked
-front-in [] t ws = refl
-front-in (e ∷ es) t ws = then-checked-in (foundIn ws) (found-in ws) (lineIn t e) (line-in t e)
+  front-in : (es : List Entry) (t : Table) → inChecked (frontBy es t (foundIn has a ones)) ≡ true
+  unfolding inChecked
+  front-in [] t = refl
+  front-in (e ∷ es) t = then-checked-in (foundIn has a ones) found-in (lineIn t e) (line-in t e)
 
 place-in : {A : Type 0} (i : ℕ) (c : Checked A) → inOutcome (onPlace i c) ≡ inChecked c
 unfolding inOutcome inChecked
 place-in i (refuse n) = refl
 place-in i (accept a) = refl
 
+evaluating-by-in : (has : ℕ → Bool) (a : Assignment) (ones : ℕ) (t : Table) (i : ℕ) → inOutcome (evaluatingBy has a ones t i) ≡ true
+unfolding evaluatingBy
+evaluating-by-in has a ones t i = let es = drop i (entries t) in place-in i (frontBy es t (foundIn has a ones)) ∙ front-in has a ones es t
+
 pub evaluating-in : (t : Table) (i : ℕ) (ws : List ℕ) → inOutcome (evaluating t i ws) ≡ true
 unfolding evaluating
-evaluating-in t i ws = let es = drop i (entries t) in place-in i (frontBy es t (take wordLimit ws)) ∙ front-in es t (take wordLimit ws)
+evaluating-in t i ws = let w = take wordLimit ws in evaluating-by-in (within w) (assigned w) (onesOf w) t i
+
+pub evaluating-known-in : (t : Table) (i : ℕ) (ws ks : List ℕ) → inOutcome (evaluatingKnown t i ws ks) ≡ true
+unfolding evaluatingKnown
+evaluating-known-in t i ws ks =
+    let w = take wordLimit ws in
+    let k = take wordLimit ks in
+    evaluating-by-in (isKnown w k) (assigned w) (knownOnes w k) t i
 
 -- ---- writing, listing
 

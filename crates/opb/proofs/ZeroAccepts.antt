@@ -10,15 +10,15 @@ use Rattle.definitions.specs.Row.{Line}
 use Rattle.definitions.specs.Table.{Table, Outcome, refused, accepted, counted}
 use Rattle.definitions.specs.File.{firstAt, file, reading}
 use Rattle.definitions.specs.Normal.{normalising}
-use Rattle.definitions.specs.Evaluate.{Evaluated, constraint, goal, evaluating}
+use Rattle.definitions.specs.Evaluate.{Evaluated, constraint, goal, evaluating, evaluatingKnown}
 use Rattle.definitions.specs.Write.{writing}
 use Rattle.definitions.specs.House.{listingTable}
 use Rattle.opb.specs.Answers.{tableAnswer, textAnswer, valueAnswer}
 use Rattle.opb.specs.Accepts.{Accepted, Tells}
-use Rattle.opb.specs.Calls.{modeAt, countAnswer, ReadsFile, NormalisesTable, evaluateAnswer, WritesLines, ListsTable}
+use Rattle.opb.specs.Calls.{modeAt, countAnswer, ReadsFile, NormalisesTable, evaluateAnswer, evaluateKnownAnswer, WritesLines, ListsTable}
 use Rattle.opb.specs.declared.answers.OpbTable.{OpbTable}
 use Rattle.opb.specs.declared.answers.OpbText.{OpbText}
-use Rattle.opb.proofs.Refusals.{inOutcome, file-in, reading-in, normalising-in, evaluating-in, writing-in, listing-in}
+use Rattle.opb.proofs.Refusals.{inOutcome, file-in, reading-in, normalising-in, evaluating-in, evaluating-known-in, writing-in, listing-in}
 
 -- ---- what an answer's number tells of the outcome
 
@@ -61,6 +61,9 @@ normalise-tells t o r o′ c = rw (c .answer) (table-tells (normalising t o) (no
 
 pub evaluate-tells : (t : Table) (row : ℕ) (words : List ℕ) → Tells (evaluateAnswer t row words .refusal) (evaluating t row words)
 evaluate-tells t row words = value-tells (evaluating t row words) (evaluating-in t row words)
+
+pub evaluate-known-tells : (t : Table) (row : ℕ) (values known : List ℕ) → Tells (evaluateKnownAnswer t row values known .refusal) (evaluatingKnown t row values known)
+evaluate-known-tells t row values known = value-tells (evaluatingKnown t row values known) (evaluating-known-in t row values known)
 
 pub write-tells : (first plain : ℕ) (t : Table) (text o : List ℕ) (r : OpbText) (o′ : List ℕ) → WritesLines first plain t text o r o′
     → Tells (r .refusal) (writing (modeAt first plain) t text (length o))

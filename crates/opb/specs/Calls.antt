@@ -8,7 +8,7 @@ use lib.ListN.{length}
 use Rattle.definitions.specs.Table.{Table, counted, after}
 use Rattle.definitions.specs.File.{firstAt, file, reading}
 use Rattle.definitions.specs.Normal.{normalising}
-use Rattle.definitions.specs.Evaluate.{evaluating}
+use Rattle.definitions.specs.Evaluate.{evaluating, evaluatingKnown}
 use Rattle.definitions.specs.Write.{writing, outputAfter}
 use Rattle.definitions.specs.House.{listingTable}
 use Rattle.definitions.specs.declared.Mode.{Mode}
@@ -42,6 +42,10 @@ pub record NormalisesTable (t o : Table) (r : OpbTable) (o′ : Table) : Type 0 
 -- a row of the table t under the assignment that the words are
 abbrev pub evaluateAnswer : Table → ℕ → List ℕ → OpbValue
 evaluateAnswer t row words = valueAnswer (evaluating t row words)
+
+-- the same where a second row of words says which variables are known
+abbrev pub evaluateKnownAnswer : Table → ℕ → List ℕ → List ℕ → OpbValue
+evaluateKnownAnswer t row values known = valueAnswer (evaluatingKnown t row values known)
 
 -- the rows of the table t, with the comments' text, as the lines of a file into the output o, which is o′ after the call
 pub record WritesLines (first plain : ℕ) (t : Table) (text o : List ℕ) (r : OpbText) (o′ : List ℕ) : Type 0 where

@@ -14,3 +14,4 @@ pub mod Marking
 pub mod Blocks
 pub mod Checks
 pub mod Reading
+pub mod Forms

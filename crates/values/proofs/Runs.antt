@@ -5,9 +5,10 @@ use mathlib.Core.Bool.{Bool, true, false}
 use mathlib.Core.List.{List, [], _∷_}
 use native.Mathlib.Omega.{arith}
 use native.Mathlib.Numerals.{add-one}
+use borrow.Author.Tests.{eq-eqb, ne-eqb}
 use lib.ListN.{length, getD, take, drop, drop-of-length-le}
 use lib.Seq.{drop-cons}
-use Rattle.definitions.specs.Values.{frontOf}
+use Rattle.definitions.specs.Values.{frontOf, among}
 
 pub front-more : (t : ℕ → Bool) (b : ℕ) (s : List ℕ) → t b ≡ true → frontOf t (b ∷ s) ≡ b ∷ frontOf t s
 unfolding frontOf
@@ -60,5 +61,30 @@ module _ (t : ℕ → Bool) (s : List ℕ) (i : ℕ) (p : Passed t s i) where
     pub passed-more : t (getD s i 0) ≡ true → Passed t s (i + 1)
     passed-more e =
         let z : length (frontOf t (drop i s)) ≡ suc (length (frontOf t (drop (suc i) s))) =
-            rw (drop-cons s i 0 h, front-more t (getD s i 0) (drop (suc i) s) e) in
+        rw (drop-cons s i 0 h, front-more t (getD s i 0) (drop (suc i) s) e) in
         rw add-one (record { within = h; count = omega (arith, p .count) })
+
+-- ---- a number that is not among the first i, for the loop of `has_x`
+
+pub record NotYet (n : ℕ) (s : List ℕ) (i : ℕ) : Type 0 where
+  pub within : i ≤ length s
+  pub later : among n s ≡ among n (drop i s)
+
+pub not-yet : (n : ℕ) (s : List ℕ) → NotYet n s 0
+not-yet n s = record { within = omega arith; later = refl }
+
+module _ (n : ℕ) (s : List ℕ) (i : ℕ) (p : NotYet n s i) where
+  pub never-met : length s ≤ i → false ≡ among n s
+  unfolding among
+  never-met h = sym (p .later ∙ rw (drop-of-length-le s h))
+
+  module _ (h : i < length s) where
+    pub number-met : getD s i 0 ≡ n → true ≡ among n s
+    unfolding among
+    number-met e = sym (p .later ∙ rw (drop-cons s i 0 h, among, eq-eqb (getD s i 0) n e))
+
+    pub not-met : (getD s i 0 ≡ n → ⊥) → NotYet n s (i + 1)
+    unfolding among
+    not-met e =
+        let z : among n (drop i s) ≡ among n (drop (suc i) s) = rw (drop-cons s i 0 h, among, ne-eqb (getD s i 0) n e) in
+        rw add-one (record { within = h; later = p .later ∙ z })

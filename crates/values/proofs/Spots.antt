@@ -1,7 +1,7 @@
 -- What is met next in a block: the items byte by byte, for the loop of `seek`, and what a token that is met means for the walk behind it.
 use Prim.Native.Nat.{ℕ, suc, _+_, _-_, _≤_, _<_}
 use mathlib.Core.Path.{_≡_, refl, ap, sym, _∙_}
-use mathlib.Core.Bool.{Bool, true, false, not}
+use mathlib.Core.Bool.{Bool, true, false}
 use mathlib.Core.List.{List, [], _∷_}
 use native.Mathlib.Omega.{arith}
 use native.Mathlib.Numerals.{add-one}
@@ -12,7 +12,7 @@ use lib.Seq.{drop-cons, drop-drop}
 use Rattle.definitions.specs.Bytes.{lf}
 use Rattle.definitions.specs.Values.{letterV, isWhite, isSolid, frontOf, Item, untagged, token, Spot, front, between, inside, itemsFrom}
 use Rattle.values.specs.Said.{saidToken, tokenSays}
-use Rattle.values.specs.Steps.{Found, nothing, line, word, soughtOf, spotOf, onFrom, stepBy, stepOf, saidNext, metOf, Ahead}
+use Rattle.values.specs.Steps.{nothing, line, word, soughtOf, spotOf, onFrom, stepBy, stepOf, saidNext, metOf, Ahead}
 use Rattle.values.specs.declared.tokens.Token.{Token}
 use Rattle.values.specs.declared.tokens.Token.the-variants as said
 use Rattle.values.specs.declared.items.Next.{Next}
@@ -276,7 +276,8 @@ module _ (w : Spot) (block : List ℕ) (from : ℕ) (named : Bool) where
   pub steps-line : (p : ℕ) → LineMet w block from p → Steps (next.Refused 20 p)
   steps-line p m = (rw (m .items), (m .ahead, omega (arith, m .within)))
 
-  pub steps-token : (p n : ℕ) (t : Token) (r : Next) → TokenMet w block from p → n ≡ size block p → saidToken t ≡ tokenSays named (take (p + n - p) (drop p block)) → r ≡ metOf t p (p + n) → Steps r
+  pub steps-token : (p n : ℕ) (t : Token) (r : Next) → TokenMet w block from p → n ≡ size block p
+      → saidToken t ≡ tokenSays named (take (p + n - p) (drop p block)) → r ≡ metOf t p (p + n) → Steps r
   steps-token p n t r m e f g =
       let k : p + n - p ≡ size block p = omega arith in
       let text : take (p + n - p) (drop p block) ≡ frontOf isSolid (drop p block) = rw k (front-take isSolid (drop p block)) in

@@ -32,7 +32,8 @@ is-white-requires c κs = search needs
 returns-2 : tie.Need-returns-2 Inv-loop μ-loop
 returns-2 c =
     let e = c .before .before in
-    seeking-token _ _ _ _ _ (e .before .before .before .before .loop .inv) (omega arith) (e .before .if1 .left) (e .if3 .left) (sym (c .before .is-white .ensures) ∙ not-true _ (c .if4 .taken))
+    seeking-token _ _ _ _ _ (e .before .before .before .before .loop .inv) (omega arith) (e .before .if1 .left) (e .if3 .left)
+    (sym (c .before .is-white .ensures) ∙ not-true _ (c .if4 .taken))
 
 add-at : tie.Need-add-at Inv-loop μ-loop
 add-at c = omega arith
