@@ -2,3 +2,4 @@ pub mod Split
 pub mod Places
 pub mod Bits
 pub mod Marking
+pub mod Searching
