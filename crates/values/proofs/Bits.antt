@@ -5,13 +5,13 @@ use mathlib.Core.Bool.{Bool, true, false, cond}
 use mathlib.Core.List.{List}
 use native.Mathlib.Omega.{arith}
 use native.Mathlib.Decide.{decLt}
-use native.Mathlib.Nat.{mod-lt, mul-add-div-right, mul-add-mod-self-right, mul-assoc, add-mul, mod-le, pow-suc}
+use native.Mathlib.Nat.{mod-lt, mul-add-div-right, mul-add-mod-self-right, mul-assoc, add-mul, mod-le, pow-suc, zero-div, mul-le-mul-right}
 use borrow.Author.Tests.{eq-eqb, ne-eqb, eqb-true, eqb-false}
 use lib.Arith.{digits-lt}
 use lib.Dec.{eqb}
-use lib.ListN.{length, getD, set, length-set}
-use lib.Pow.{pow-pos, pow-add, split, high, shr-lt, shr-shr}
-use lib.Seq.{getD-set-same, getD-set-other, set-getD}
+use lib.ListN.{length, getD, set, length-set, List·getD-eq-default}
+use lib.Pow.{pow-pos, pow-add, split, high, shr-lt, shr-shr, shl-exact}
+use lib.Seq.{getD-set-same, getD-set-other, set-getD, set-out}
 use Rattle.definitions.specs.Meaning.{assigned}
 use Rattle.definitions.specs.Values.{wordWith, bitMade}
 
@@ -109,7 +109,7 @@ upper-fits false q d h = omega arith
 fits-on : (b : Bool) (d k w : ℕ) → w < 2 ^ (suc d + k) → wordWith b k w < 2 ^ (suc d + k)
 fits-on b d k w h =
     let l : upper b (w / 2 ^ k) * 2 ^ k + w % 2 ^ k < 2 ^ suc d * 2 ^ k
-          = digits-lt (upper-fits b (w / 2 ^ k) d (shr-lt (suc d) k h)) (mod-lt w (pow-pos k)) in
+    = digits-lt (upper-fits b (w / 2 ^ k) d (shr-lt (suc d) k h)) (mod-lt w (pow-pos k)) in
     rw (with-parts b k w, pow-add 2 (suc d) k) l
 
 pub with-fits : (b : Bool) (n k w : ℕ) → k < n → w < 2 ^ n → wordWith b k w < 2 ^ n
@@ -117,7 +117,52 @@ with-fits b n k w h l =
     let e : suc (n - suc k) + k ≡ n = omega arith in
     rw e at (fits-on b (n - suc k) k w (rw e l))
 
+-- ---- how the code turns a bit: by its power of two
+pub power : (k : ℕ) → k < 64 → (1 * 2 ^ k) % 2 ^ 64 ≡ 2 ^ k
+power k h = shl-exact 1 k 64 (omega arith) (omega arith) ∙ omega arith
+
+module _ (k w : ℕ) where
+  module _ (h : w / 2 ^ k % 2 ≡ 1) where
+    pub one-is : bitOf k w ≡ true
+    one-is = eq-eqb (w / 2 ^ k % 2) 1 h
+
+    pub power-within : 2 ^ k ≤ w
+    power-within = omega (arith, q-within, split w k)
+      where
+        q-within : 1 * 2 ^ k ≤ w / 2 ^ k * 2 ^ k
+        q-within = mul-le-mul-right (2 ^ k) (omega arith)
+
+    pub power-taken : w - 2 ^ k ≡ wordWith false k w
+    power-taken = rw h (omega arith)
+
+  module _ (h : w / 2 ^ k % 2 ≡ 1 → ⊥) where
+    pub one-is-not : bitOf k w ≡ false
+    one-is-not = ne-eqb (w / 2 ^ k % 2) 1 h
+
+    pub power-added : w + 2 ^ k ≡ wordWith true k w
+    power-added = let z : w / 2 ^ k % 2 ≡ 0 = omega (arith, h) in rw z (omega arith)
+
+    pub added-fits : k < 64 → w < 2 ^ 64 → w + 2 ^ k < 2 ^ 64
+    added-fits l f = rw power-added (with-fits true 64 k w l f)
+
 -- ---- the bit of a variable
+pub bit-of : (v : ℕ) (ws : List ℕ) → bitOf (v % 64) (getD ws (v / 64) 0) ≡ assigned ws v
+unfolding assigned
+bit-of v ws = refl
+
+-- beyond the words it is 0, and making it changes nothing
+pub bit-beyond : (v : ℕ) (ws : List ℕ) → length ws ≤ v / 64 → false ≡ assigned ws v
+unfolding assigned
+bit-beyond v ws h = rw (List·getD-eq-default ws 0 h, zero-div (2 ^ (v % 64)))
+
+pub made-beyond : (b : Bool) (v : ℕ) (ws : List ℕ) → length ws ≤ v / 64 → ws ≡ bitMade b v ws
+unfolding bitMade
+made-beyond b v ws h = sym (set-out ws (v / 64) _ h)
+
+pub made-in : (b : Bool) (v w : ℕ) (ws : List ℕ) → w ≡ wordWith b (v % 64) (getD ws (v / 64) 0) → set ws (v / 64) w ≡ bitMade b v ws
+unfolding bitMade
+made-in b v w ws e = ap (set ws (v / 64)) e
+
 pub length-made : (b : Bool) (v : ℕ) (ws : List ℕ) → length (bitMade b v ws) ≡ length ws
 unfolding bitMade
 length-made b v ws = length-set ws (v / 64) _

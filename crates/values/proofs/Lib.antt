@@ -3,3 +3,9 @@ pub mod Places
 pub mod Bits
 pub mod Marking
 pub mod Searching
+pub mod Runs
+pub mod Spots
+pub mod Forms
+pub mod Bits
+pub mod Known
+pub mod Says
