@@ -1,11 +1,10 @@
-pub mod Split
-pub mod Places
-pub mod Bits
-pub mod Marking
-pub mod Searching
 pub mod Runs
 pub mod Spots
 pub mod Forms
 pub mod Bits
 pub mod Known
 pub mod Says
+pub mod Split
+pub mod Places
+pub mod Marking
+pub mod Searching

@@ -1,5 +1,5 @@
 -- The walk for one window: the marks are the literals heard of the window, each with the bit of its code; the answer so far and what is left give the answer of the whole.
-use Prim.Native.Nat.{ℕ, _+_, _-_, _*_, _/_, _≤_, _<_, min}
+use Prim.Native.Nat.{ℕ, _+_, _*_, _≤_, _<_, min}
 use mathlib.Core.Path.{_≡_, refl, sym, ap, _∙_}
 use mathlib.Core.Bool.{Bool, true, false, cond, not, _&&_, _||_}
 use mathlib.Core.List.{List, [], _∷_, _++_}
@@ -10,7 +10,7 @@ use lib.ListN.{length, drop}
 use Rattle.definitions.specs.Limits.{indexLimit}
 use Rattle.definitions.specs.Literal.{indexOf, opposite}
 use Rattle.definitions.specs.Meaning.{isTrue, assigned, isKnown}
-use Rattle.definitions.specs.Values.{Spot, front, itemsFrom, among, conflicts, bitMade}
+use Rattle.definitions.specs.Values.{front, itemsFrom, among, conflicts, bitMade}
 use Rattle.values.specs.Flat.{Placed, placed, saidBy}
 use Rattle.values.specs.Steps.{spotOf, ends, refuses, says, stepOf, onFrom}
 use Rattle.values.specs.Windows.{windowSize, conflictAt, only, inWindow, leastFrom, windowOf, PlacesBelow, marksSize, markOf, Unmarked, clashes, meetOf, markedBy, noted}

@@ -1,11 +1,11 @@
 -- The search of a block, window by window: the first conflict of the variables below the next window.
 use Prim.Native.Nat.{ℕ, zero, suc, _+_, _-_, _/_, _%_, _^_, _≤_, _<_, min}
 use mathlib.Core.Path.{_≡_, refl, sym, ap, _∙_}
-use mathlib.Core.Bool.{Bool, false}
-use mathlib.Core.List.{List, [], _∷_}
+use mathlib.Core.Bool.{Bool}
+use mathlib.Core.List.{List, []}
 use native.Mathlib.Nat.{zero-div}
 use native.Mathlib.Omega.{arith}
-use lib.ListN.{length, getD, replicate}
+use lib.ListN.{getD, replicate}
 use Rattle.definitions.specs.Limits.{indexLimit}
 use Rattle.definitions.specs.Meaning.{assigned}
 use Rattle.definitions.specs.Values.{front, itemsFrom}

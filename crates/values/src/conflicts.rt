@@ -10,7 +10,6 @@ ghost use mathlib.Core.Path.{_≡_};
 ghost use mathlib.Core.List.{[]};
 ghost use Prim.Native.Nat.{_≤_, min};
 ghost use lib.ListN.{length};
-ghost use Rattle.definitions.specs.Limits.{indexLimit};
 ghost use Rattle.definitions.specs.Literal.{indexOf};
 ghost use Rattle.definitions.specs.Values.{front, itemsFrom};
 ghost use Rattle.values.specs.Flat.{saidBy};
@@ -36,7 +35,7 @@ enum Met {
     Marked,
 }
 
-// The mark of a literal is the bit of its code, counted from the window's first.
+// Whether a literal of the window is known otherwise, or its opposite is marked. The mark of a literal is the bit of its code, counted from the window's first.
 fn clashes(literal: Lit, base: u32, marks: &[u64], values: &[u64], known: &[u64]) -> bool
     requires { ⌜ base ≤ indexOf (literal .0) ⌝ }
     ensures { λ r. ⌜ r ≡ clashes (now (values .entry)) (now (known .entry)) (now (marks .entry)) base (literal .0) ⌝ }
@@ -48,6 +47,7 @@ fn clashes(literal: Lit, base: u32, marks: &[u64], values: &[u64], known: &[u64]
     bit_at(marks, (opposite - 2 * base) as usize)
 }
 
+// A literal of the window that does not clash is marked.
 fn meet(literal: Lit, base: u32, marks: &mut [u64], values: &[u64], known: &[u64]) -> Met
     ensures met { λ r. ⌜ r ≡ meetOf (now (values .entry)) (now (known .entry)) (now (marks .entry)) base (literal .0) ⌝ }
     ensures marks { λ r. ⌜ now (marks .exit) ≡ markedBy r base (literal .0) (now (marks .entry)) ⌝ }
@@ -97,6 +97,7 @@ fn note(met: Met, place: usize, found: Window) -> Window
     }
 }
 
+// The walk for the window that begins at `base`, with no mark set before it.
 fn mark_window(
     block: &[u8],
     named: bool,
@@ -119,15 +120,11 @@ fn mark_window(
     let mut opens = true;
     loop {
         match next_token(block, at, opens, named) {
-            Next::End => {
-                return found;
-            }
+            Next::End => return found,
             Next::Refused {
                 number: _,
                 place: _,
-            } => {
-                return found;
-            }
+            } => return found,
             Next::Nothing {
                 place: _,
                 end: behind,
@@ -146,6 +143,7 @@ fn mark_window(
     }
 }
 
+// Two literals to a variable, 64 marks to a word: 32,768 words.
 fn walk_for(
     block: &[u8],
     named: bool,

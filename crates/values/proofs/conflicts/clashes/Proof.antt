@@ -3,7 +3,6 @@ use Prim.Native.Nat.{ℕ, _-_, _*_}
 use mathlib.Core.Path.{sym, ap, _∙_}
 use native.Mathlib.Omega.{arith}
 use denote.Ref.{now}
-use Rattle.definitions.specs.Literal.{opposite}
 use Rattle.definitions.specs.Meaning.{assigned}
 use Rattle.values.proofs.Split.{opposite-index}
 use Rattle.values.proofs.Marking.{clash-otherwise, clash-marked}

@@ -1,18 +1,15 @@
 -- `values::conflicts::mark_window` meets its contract: the loop stands at an offset with the marks and the answer so far (`Walk`, proofs/Marking.antt). The measure is what is left of the block.
 -- Assumes nothing.
-use Prim.Native.Nat.{ℕ, _-_, _≤_, _<_}
-use mathlib.Core.Path.{_≡_, sym, ap, ap₂, _∙_}
-use mathlib.Core.List.{List, [], _∷_}
+use Prim.Native.Nat.{ℕ, _-_}
+use mathlib.Core.Path.{_≡_, sym, ap, _∙_}
+use mathlib.Core.List.{List}
 use native.Mathlib.Omega.{arith}
 use borrow.Author.Needs.{needs}
 use denote.Ref.{now}
 use lib.ListN.{length, drop}
 use Rattle.definitions.specs.Values.{itemsFrom}
-use Rattle.values.specs.Steps.{Step, says, spotOf, stepOf, saidNext, onFrom, Ahead}
-use Rattle.values.specs.Windows.{meetOf, markedBy, noted}
+use Rattle.values.specs.Steps.{spotOf, stepOf, saidNext, Ahead}
 use Rattle.values.specs.declared.items.Next.{Next}
-use Rattle.values.specs.declared.conflicts.Met.{Met}
-use Rattle.values.specs.declared.conflicts.Window.{Window}
 use Rattle.values.proofs.Marking.{Walk, walk-start, walk-ends, walk-refuses, walk-nothing, walk-on}
 use Rattle.values.proofs.conflicts.mark_window.Statement.{statement}
 use Rattle.values.proofs.conflicts.mark_window.Tie as tie
