@@ -14,10 +14,4 @@ pub mod Blocks
 pub mod Checks
 pub mod Reading
 pub mod Forms
-pub mod Bits
-pub mod Known
-pub mod Says
-pub mod Split
-pub mod Places
-pub mod Marking
 pub mod Searching
