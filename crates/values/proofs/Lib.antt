@@ -15,3 +15,4 @@ pub mod Blocks
 pub mod Checks
 pub mod Reading
 pub mod Forms
+pub mod Searching

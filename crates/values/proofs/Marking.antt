@@ -1,27 +1,25 @@
 -- The walk for one window: the marks are the literals heard of the window, each with the bit of its code; the answer so far and what is left give the answer of the whole.
-use Prim.Native.Nat.{ℕ, _+_, _-_, _*_, _/_, _≤_, _<_, min}
+use Prim.Native.Nat.{ℕ, _+_, _*_, _≤_, _<_, min}
 use mathlib.Core.Path.{_≡_, refl, sym, ap, _∙_}
 use mathlib.Core.Bool.{Bool, true, false, cond, not, _&&_, _||_}
 use mathlib.Core.List.{List, [], _∷_, _++_}
 use native.Mathlib.Omega.{arith}
 use borrow.Author.Tests.{ltb-true, ltb-false, leb-true, leb-false, eqb-true, eqb-false, eq-eqb, ne-eqb, lt-ltb, le-ltb, le-leb, lt-leb}
 use lib.Dec.{leb, ltb, eqb}
-use lib.ListN.{length}
+use lib.ListN.{length, drop}
 use Rattle.definitions.specs.Limits.{indexLimit}
 use Rattle.definitions.specs.Literal.{indexOf, opposite}
 use Rattle.definitions.specs.Meaning.{isTrue, assigned, isKnown}
-use Rattle.definitions.specs.Values.{among, conflicts, bitMade}
-use Rattle.values.specs.Flat.{Placed, placed}
-use Rattle.values.specs.Windows.{windowSize, conflictAt, only, inWindow, leastFrom, windowOf, PlacesBelow, markOf, Unmarked, clashes, metOf, markedBy, noted}
+use Rattle.definitions.specs.Values.{front, itemsFrom, among, conflicts, bitMade}
+use Rattle.values.specs.Flat.{Placed, placed, saidBy}
+use Rattle.values.specs.Steps.{spotOf, ends, refuses, says, stepOf, onFrom}
+use Rattle.values.specs.Windows.{windowSize, conflictAt, only, inWindow, leastFrom, windowOf, PlacesBelow, marksSize, markOf, Unmarked, clashes, meetOf, markedBy, noted}
 use Rattle.values.specs.declared.conflicts.Window.{Window}
 use Rattle.values.specs.declared.conflicts.Met.{Met}
 use Rattle.values.specs.declared.conflicts.Met.the-variants as met
 use Rattle.values.proofs.Bits.{bit-made, length-made}
 use Rattle.values.proofs.Split.{conflict-here, conflict-later, only-in, only-out, opposite-index, among-snoc, Ascending, conflict-from, conflict-within, window-in, window-before, window-behind, least-here, least-on, least-is}
-
--- the marks have a word for each 32 variables of the window
-abbrev pub marksSize : ℕ
-marksSize = 32_768
+use Rattle.values.proofs.Places.{orderly-from, step-ends, step-refuses, step-says}
 
 -- the mark of each literal of the window says whether it was heard
 abbrev pub Marks : ℕ → List ℕ → List ℕ → Type 0
@@ -62,26 +60,44 @@ clashes-heard : (ws ks marks heard : List ℕ) (base c : ℕ) → inWindow base 
 unfolding clashes conflicts
 clashes-heard ws ks marks heard base c i m = rw (m (opposite c) (ap (inWindow base) (opposite-index c) ∙ i))
 
--- ---- where a literal lies
+-- ---- one literal, as the code looks at it
 
 module _ (ws ks marks : List ℕ) (base c : ℕ) where
-  met-before : indexOf c < base → metOf ws ks marks base c ≡ met.Before
-  unfolding metOf
+  -- known otherwise
+  abbrev otherwise : Bool
+  otherwise = isKnown ws ks (indexOf c) && not (isTrue (assigned ws) c)
+
+  pub clash-otherwise : otherwise ≡ true → true ≡ clashes ws ks marks base c
+  unfolding clashes
+  clash-otherwise e = rw e
+
+  pub clash-marked : otherwise ≡ false → assigned marks (markOf base (opposite c)) ≡ clashes ws ks marks base c
+  unfolding clashes
+  clash-marked e = rw e
+
+  pub met-before : indexOf c < base → meetOf ws ks marks base c ≡ met.Before
+  unfolding meetOf
   met-before h = rw (lt-ltb (indexOf c) base h)
 
-  met-behind : base + windowSize ≤ indexOf c → metOf ws ks marks base c ≡ met.Behind (indexOf c)
-  unfolding metOf
+  pub met-behind : base + windowSize ≤ indexOf c → meetOf ws ks marks base c ≡ met.Behind (indexOf c)
+  unfolding meetOf
   met-behind h = rw (le-ltb (indexOf c) base (omega arith), le-leb (base + windowSize) (indexOf c) h)
 
-  met-conflict : base ≤ indexOf c → indexOf c < base + windowSize → clashes ws ks marks base c ≡ true → metOf ws ks marks base c ≡ met.Conflict
-  unfolding metOf
+  pub met-conflict : base ≤ indexOf c → indexOf c < base + windowSize → clashes ws ks marks base c ≡ true → meetOf ws ks marks base c ≡ met.Conflict
+  unfolding meetOf
   met-conflict h k e = rw (le-ltb (indexOf c) base h, lt-leb (base + windowSize) (indexOf c) k, e)
 
-  met-marked : base ≤ indexOf c → indexOf c < base + windowSize → clashes ws ks marks base c ≡ false → metOf ws ks marks base c ≡ met.Marked
-  unfolding metOf
+  pub met-marked : base ≤ indexOf c → indexOf c < base + windowSize → clashes ws ks marks base c ≡ false → meetOf ws ks marks base c ≡ met.Marked
+  unfolding meetOf
   met-marked h k e = rw (le-ltb (indexOf c) base h, lt-leb (base + windowSize) (indexOf c) k, e)
 
--- ---- the walk
+pub note-behind : (m : Met) (v p n : ℕ) (w : Window) → m ≡ met.Behind v → n ≡ min (w .next) v → _≡_ {A = Window} (record { place = w .place; next = n }) (noted m p w)
+note-behind m v p n w e q = rw (e, q)
+
+pub note-conflict : (m : Met) (p n : ℕ) (w : Window) → m ≡ met.Conflict → n ≡ min (w .place) p → _≡_ {A = Window} (record { place = n; next = w .next }) (noted m p w)
+note-conflict m p n w e q = rw (e, q)
+
+-- ---- the walk over literals
 
 -- with the answer w and the marks so far, and the literals that are left
 pub record Marking (ws ks : List ℕ) (end base : ℕ) (all : List Placed) (marks : List ℕ) (w : Window) (rest : List Placed) : Type 0 where
@@ -188,17 +204,64 @@ module _ (ws ks : List ℕ) (end base : ℕ) (all : List Placed) where
             next = rw (least-on (base + windowSize) (placed p c) rest k) at (m .next);
           }
 
-      goes-inside : (r : Bool) → clashes ws ks marks base c ≡ r → Goes (metOf ws ks marks base c)
+      goes-inside : (r : Bool) → clashes ws ks marks base c ≡ r → Goes (meetOf ws ks marks base c)
       goes-inside true e = rw (met-conflict ws ks marks base c h k e) (goes-conflict (sym (clashes-heard ws ks marks (m .heard) base c inside (m .bits)) ∙ e))
       goes-inside false e = rw (met-marked ws ks marks base c h k e) (goes-marked (sym (clashes-heard ws ks marks (m .heard) base c inside (m .bits)) ∙ e))
 
-    goes-from : base ≤ indexOf c → (r : Bool) → leb (base + windowSize) (indexOf c) ≡ r → Goes (metOf ws ks marks base c)
+    goes-from : base ≤ indexOf c → (r : Bool) → leb (base + windowSize) (indexOf c) ≡ r → Goes (meetOf ws ks marks base c)
     goes-from h true e = let k = leb-true (base + windowSize) (indexOf c) e in rw (met-behind ws ks marks base c k) (goes-behind k)
     goes-from h false e = goes-inside h (leb-false (base + windowSize) (indexOf c) e) (clashes ws ks marks base c) refl
 
-    goes-at : (r : Bool) → ltb (indexOf c) base ≡ r → Goes (metOf ws ks marks base c)
+    goes-at : (r : Bool) → ltb (indexOf c) base ≡ r → Goes (meetOf ws ks marks base c)
     goes-at true e = let h = ltb-true (indexOf c) base e in rw (met-before ws ks marks base c h) (goes-before h)
     goes-at false e = goes-from (ltb-false (indexOf c) base e) (leb (base + windowSize) (indexOf c)) refl
 
-    pub marking-step : Goes (metOf ws ks marks base c)
+    pub marking-step : Goes (meetOf ws ks marks base c)
     marking-step = goes-at (ltb (indexOf c) base) refl
+
+-- ---- the walk over a block
+
+-- the walk stands at an offset, which is at a line's front or not
+pub record Walk (named : Bool) (ws ks block : List ℕ) (end base : ℕ) (marks : List ℕ) (w : Window) (at : ℕ) (opens : Bool) : Type 0 where
+  pub inside : at ≤ length block
+  pub marking : Marking ws ks end base (saidBy named (itemsFrom front 0 block)) marks w (saidBy named (itemsFrom (spotOf opens) at (drop at block)))
+
+module _ (named : Bool) (ws ks block : List ℕ) (end base : ℕ) where
+  pub walk-start : (marks : List ℕ) → length marks ≡ marksSize → Unmarked marks → PlacesBelow end (saidBy named (itemsFrom front 0 block))
+      → Walk named ws ks block end base marks (atFirst end) 0 true
+  walk-start marks s u b = record { inside = omega arith; marking = marking-start ws ks end base (saidBy named (itemsFrom front 0 block)) marks s u b }
+
+  module _ (marks : List ℕ) (w : Window) (at : ℕ) (opens : Bool) (k : Walk named ws ks block end base marks w at opens) where
+    abbrev all : List Placed
+    all = saidBy named (itemsFrom front 0 block)
+
+    abbrev rest : List Placed
+    rest = saidBy named (itemsFrom (spotOf opens) at (drop at block))
+
+    pub walk-ends : ends ≡ stepOf named (itemsFrom (spotOf opens) at (drop at block)) → w ≡ windowOf ws ks end base all
+    walk-ends e = marking-end ws ks end base all marks w (rw (step-ends named (itemsFrom (spotOf opens) at (drop at block)) e) at (k .marking))
+
+    pub walk-refuses : (n p : ℕ) → refuses n p ≡ stepOf named (itemsFrom (spotOf opens) at (drop at block)) → w ≡ windowOf ws ks end base all
+    walk-refuses n p e = marking-end ws ks end base all marks w (rw (step-refuses named (itemsFrom (spotOf opens) at (drop at block)) n p e) at (k .marking))
+
+    pub walk-nothing : (p e : ℕ) → e ≤ length block → says p [] (onFrom block e) ≡ stepOf named (itemsFrom (spotOf opens) at (drop at block))
+        → Walk named ws ks block end base marks w e false
+    walk-nothing p e h q =
+        record { inside = h; marking = rw (step-says named (itemsFrom (spotOf opens) at (drop at block)) p [] (onFrom block e) q) at (k .marking) }
+
+    walk-says : (p e c : ℕ) → e ≤ length block → says p (c ∷ []) (onFrom block e) ≡ stepOf named (itemsFrom (spotOf opens) at (drop at block))
+        → Walk named ws ks block end base (markedBy (meetOf ws ks marks base c) base c marks) (noted (meetOf ws ks marks base c) p w) e false
+    walk-says p e c h q =
+        let t = step-says named (itemsFrom (spotOf opens) at (drop at block)) p (c ∷ []) (onFrom block e) q in
+        let a : Ascending at (placed p c ∷ saidBy named (onFrom block e)) = rw t at (orderly-from named (spotOf opens) block at (k .inside) .ascending) in
+        record { inside = h; marking = marking-step ws ks end base all marks w p c (saidBy named (onFrom block e)) (rw t at (k .marking)) (a .1) }
+
+    -- as the code goes on, by its own answers
+    pub walk-on : (p e c : ℕ) (r : Met) (marks′ : List ℕ) (w′ : Window)
+        → r ≡ meetOf ws ks marks base c
+        → marks′ ≡ markedBy r base c marks
+        → w′ ≡ noted r p w
+        → e ≤ length block
+        → says p (c ∷ []) (onFrom block e) ≡ stepOf named (itemsFrom (spotOf opens) at (drop at block))
+        → Walk named ws ks block end base marks′ w′ e false
+    walk-on p e c r marks′ w′ i j l h q = rw (l, j, i) (walk-says p e c h q)

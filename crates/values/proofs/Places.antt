@@ -1,7 +1,7 @@
 -- The literals that a block says, in order: their places ascend, and lie before the place where the walk stops; a token says one literal at most, of a variable within the limit. And what a step
 -- of the walk says of them.
-use Prim.Native.Nat.{ℕ, _+_, _-_, _≤_, _<_}
-use mathlib.Core.Path.{_≡_, refl, sym, ap, _∙_}
+use Prim.Native.Nat.{ℕ, _+_, _-_, _≤_}
+use mathlib.Core.Path.{_≡_, refl}
 use mathlib.Core.Bool.{Bool, true, false, cond, _&&_, _||_}
 use mathlib.Core.List.{List, [], _∷_, _++_, map}
 use native.Mathlib.Omega.{arith}
@@ -16,9 +16,9 @@ use Rattle.definitions.specs.Table.{andThen}
 use Rattle.definitions.specs.Values.{Item, untagged, token, Spot, front, between, inside, itemsFrom, letterV, isWhite, isSolid, frontOf, wholeNumber, literalFor, signedFor, signedToken, namedVariable, xToken}
 use Rattle.values.specs.Said.{tokenSays}
 use Rattle.values.specs.Flat.{Placed, placed, saidBy, stopOf}
-use Rattle.values.specs.Steps.{Step, ends, refuses, says, stepBy, stepOf}
+use Rattle.values.specs.Steps.{ends, refuses, says, stepBy, stepOf}
 use Rattle.values.specs.Windows.{PlacesBelow}
-use Rattle.values.proofs.Split.{Ascending, ascending-from, EachVar, Known}
+use Rattle.values.proofs.Split.{Ascending, ascending-from, Known}
 
 -- ---- a token says one literal at most
 
@@ -123,12 +123,12 @@ module _ (named : Bool) (end from : ℕ) where
   unfolding saidBy stopOf
   orderly-untagged = record { ascending = tt; below = tt; known = tt; ahead = omega arith }
 
-  orderly-said : (s cs : List ℕ) (is : List Item) → AtMostOne cs → OrderlyAt named end (from + 1) is
+  orderly-said : (cs : List ℕ) (is : List Item) → AtMostOne cs → OrderlyAt named end (from + 1) is
       → Orderly from (stopOf named end is .place) (map (placed from) cs ++ saidBy named is)
-  orderly-said s [] is f o = orderly-skip is o
-  orderly-said s (c ∷ []) is f o =
+  orderly-said [] is f o = orderly-skip is o
+  orderly-said (c ∷ []) is f o =
       record { ascending = (omega arith, o .ascending); below = (omega (arith, o .ahead), o .below); known = (f, o .known); ahead = omega (arith, o .ahead) }
-  orderly-said s (c ∷ d ∷ cs) is f o = absurd f
+  orderly-said (c ∷ d ∷ cs) is f o = absurd f
 
   orderly-token : (s : List ℕ) (is : List Item) → OrderlyAt named end (from + 1) is → OrderlyAt named end from (token from s ∷ is)
   unfolding saidBy stopOf
@@ -139,7 +139,7 @@ module _ (named : Bool) (end from : ℕ) where
           ((elim x as (λ (y : Checked (List ℕ)). Refusal) [ refuse e ↦ refusal e from | accept cs ↦ stopOf named end is ]) .place)
           (elim x [ refuse e ↦ [] | accept cs ↦ map (placed from) cs ++ saidBy named is ])
       pick (refuse e) f = record { ascending = tt; below = tt; known = tt; ahead = omega arith }
-      pick (accept cs) f = orderly-said s cs is f o
+      pick (accept cs) f = orderly-said cs is f o
 
   pick-front : (r : Bool) (is : List Item) → OrderlyAt named end (from + 1) is → OrderlyAt named end from (elim r [ true ↦ is | false ↦ untagged from ∷ [] ])
   pick-front true is o = orderly-skip is o

@@ -1,14 +1,13 @@
 -- A conflict of a literal depends only on what was said of its own variable: the first conflict of a list is the first of those of its parts, where each variable belongs to one part.
-use Prim.Native.Nat.{ℕ, _+_, _-_, _*_, _/_, _%_, _≤_, _<_, min}
+use Prim.Native.Nat.{ℕ, _+_, _≤_, _<_, min}
 use mathlib.Core.Path.{_≡_, refl, sym, ap, _∙_}
-use mathlib.Core.Bool.{Bool, true, false, cond, not, _&&_, _||_}
+use mathlib.Core.Bool.{Bool, true, false, _||_, or-false, or-assoc, and-false}
 use mathlib.Core.List.{List, [], _∷_, _++_}
 use native.Mathlib.Omega.{arith}
-use borrow.Author.Tests.{ltb-true, ltb-false, leb-true, leb-false, eqb-true, lt-ltb, le-ltb, le-leb, lt-leb, ne-eqb}
+use borrow.Author.Tests.{ltb-true, ltb-false, leb-true, leb-false, eqb-true, lt-ltb, le-ltb, le-leb, lt-leb}
 use lib.Dec.{leb, ltb, eqb}
 use Rattle.definitions.specs.Limits.{indexLimit}
 use Rattle.definitions.specs.Literal.{indexOf, opposite}
-use Rattle.definitions.specs.Meaning.{isTrue, assigned, isKnown}
 use Rattle.definitions.specs.Values.{among, conflicts}
 use Rattle.values.specs.Flat.{Placed}
 use Rattle.values.specs.Windows.{windowSize, conflictAt, only, inWindow, below, leastFrom, PlacesBelow}
@@ -45,16 +44,8 @@ opposite-index c = omega arith
 
 pub among-snoc : (n : ℕ) (ms : List ℕ) (m : ℕ) → among n (ms ++ (m ∷ [])) ≡ among n ms || eqb m n
 unfolding among
-among-snoc n [] m = or-none (eqb m n)
-  where
-    or-none : (b : Bool) → b || false ≡ b
-    or-none true = refl
-    or-none false = refl
-among-snoc n (k ∷ ms) m = ap (λ (b : Bool). eqb k n || b) (among-snoc n ms m) ∙ regroup (eqb k n) (among n ms) (eqb m n)
-  where
-    regroup : (a b c : Bool) → a || (b || c) ≡ (a || b) || c
-    regroup true b c = refl
-    regroup false b c = refl
+among-snoc n [] m = or-false (eqb m n)
+among-snoc n (k ∷ ms) m = ap (λ (b : Bool). eqb k n || b) (among-snoc n ms m) ∙ sym (or-assoc (eqb k n) (among n ms) (eqb m n))
 
 pub conflicts-same : (ws ks a b : List ℕ) (c : ℕ) → among (opposite c) a ≡ among (opposite c) b → conflicts ws ks a c ≡ conflicts ws ks b c
 unfolding conflicts
@@ -100,6 +91,7 @@ conflict-within ws ks end t (x ∷ xs) b heard = step (conflict-within ws ks end
     met : ((hs : List ℕ) → conflictAt ws ks hs end (only t xs) ≤ end) → (r : Bool) → conflicts ws ks heard (x .code) ≡ r → conflictAt ws ks heard end (x ∷ only t xs) ≤ end
     met rest true e = rw (conflict-here ws ks heard end x (only t xs) e) (omega (arith, b .0))
     met rest false e = rw (conflict-later ws ks heard end x (only t xs) e) (rest (heard ++ (x .code ∷ [])))
+
     step : ((hs : List ℕ) → conflictAt ws ks hs end (only t xs) ≤ end) → (r : Bool) → t (indexOf (x .code)) ≡ r → conflictAt ws ks heard end (only t (x ∷ xs)) ≤ end
     step rest true e = rw (only-in t x xs e) (met rest (conflicts ws ks heard (x .code)) refl)
     step rest false e = rw (only-out t x xs e) (rest heard)
@@ -127,11 +119,8 @@ agree-both t os bs d h c e = rw (among-snoc (opposite c) os d, among-snoc (oppos
 
 -- one more of another
 agree-other : (t : ℕ → Bool) (os bs : List ℕ) (d : ℕ) → t (indexOf d) ≡ false → Agree t os bs → Agree t (os ++ (d ∷ [])) bs
-agree-other t os bs d n h c e = among-snoc (opposite c) os d ∙ rw (apart (eqb d (opposite c)) refl, h c e) (or-none (among (opposite c) bs))
+agree-other t os bs d n h c e = among-snoc (opposite c) os d ∙ rw (apart (eqb d (opposite c)) refl, h c e) (or-false (among (opposite c) bs))
   where
-    or-none : (b : Bool) → b || false ≡ b
-    or-none true = refl
-    or-none false = refl
     apart : (b : Bool) → eqb d (opposite c) ≡ b → b ≡ false
     apart true q = never (sym e ∙ ap t (sym (opposite-index c) ∙ ap indexOf (sym (eqb-true d (opposite c) q))) ∙ n)
     apart false q = refl
@@ -244,6 +233,7 @@ least-is n (x ∷ xs) = step (least-is n xs) (leb n v) refl
   where
     v : ℕ
     v = indexOf (x .code)
+
     step : Least n xs → (r : Bool) → leb n v ≡ r → Least n (x ∷ xs)
     step k true e =
         let l = least-here n x xs (leb-true n v e) in
@@ -273,11 +263,7 @@ pub window-before : (base v : ℕ) → v < base → inWindow base v ≡ false
 window-before base v h = rw (lt-leb base v h)
 
 pub window-behind : (base v : ℕ) → base + windowSize ≤ v → inWindow base v ≡ false
-window-behind base v h = rw (le-ltb v (base + windowSize) h) (both (leb base v))
-  where
-    both : (b : Bool) → b && false ≡ false
-    both true = refl
-    both false = refl
+window-behind base v h = rw (le-ltb v (base + windowSize) h) (and-false (leb base v))
 
 -- the variables below the next window's front are those below this one's, and its own
 part-at : (base next v : ℕ) → base ≤ indexLimit → min (base + windowSize) (indexLimit + 1) ≤ next → v ≤ indexLimit → (base + windowSize ≤ v → next ≤ v)
@@ -290,6 +276,7 @@ part-at base next v h k l g = before (ltb v base) refl
         let u = ltb-false v (base + windowSize) e in
         let w = g u in
         neither (le-ltb v next w) (le-ltb v base q) (window-behind base v u)
+
     before : (r : Bool) → ltb v base ≡ r → Part (below next v) (below base v) (inWindow base v)
     before true e = let u = ltb-true v base e in first (lt-ltb v next (omega arith)) (lt-ltb v base u) (window-before base v u)
     before false e = behind (ltb-false v base e) (ltb v (base + windowSize)) refl
@@ -310,11 +297,11 @@ module _ (ws ks : List ℕ) (end : ℕ) (xs : List Placed) where
         let next = leastFrom (base + windowSize) xs in
         let l = least-is (base + windowSize) xs in
         let parts : EachVar (λ v. Part (below next v) (below base v) (inWindow base v)) xs = each-from
-              (λ v. (v ≤ indexLimit) × (base + windowSize ≤ v → next ≤ v))
-              (λ v. Part (below next v) (below base v) (inWindow base v))
-              (λ v q. part-at base next v h (l .least) (q .0) (q .1))
-              xs
-              (each-both (λ v. v ≤ indexLimit) (λ v. base + windowSize ≤ v → next ≤ v) xs k (l .gap next (omega arith))) in
+        (λ v. (v ≤ indexLimit) × (base + windowSize ≤ v → next ≤ v))
+        (λ v. Part (below next v) (below base v) (inWindow base v))
+        (λ v q. part-at base next v h (l .least) (q .0) (q .1))
+        xs
+        (each-both (λ v. v ≤ indexLimit) (λ v. base + windowSize ≤ v → next ≤ v) xs k (l .gap next (omega arith))) in
         sym (split ws ks end (below next) (below base) (inWindow base) 0 xs a b parts [] [] [] (λ c e. refl) (λ c e. refl))
 
     pub windows-end : indexLimit < base → firstBelow base ≡ conflictAt ws ks [] end xs

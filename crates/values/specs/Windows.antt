@@ -51,6 +51,10 @@ PlacesBelow end (x ∷ xs) = (x .place < end) × PlacesBelow end xs
 
 -- ---- one literal c in the walk for the window that begins at base; the marks have a bit for each literal of the window, by its code
 
+-- how many words they take, 64 bits each
+abbrev pub marksSize : ℕ
+marksSize = 32_768
+
 abbrev pub markOf : ℕ → ℕ → ℕ
 markOf base c = c - 2 * base
 
@@ -62,8 +66,8 @@ Unmarked marks = (u : ℕ) → assigned marks u ≡ false
 unfoldable pub clashes : List ℕ → List ℕ → List ℕ → ℕ → ℕ → Bool
 clashes ws ks marks base c = (isKnown ws ks (indexOf c) && not (isTrue (assigned ws) c)) || assigned marks (markOf base (opposite c))
 
-unfoldable pub metOf : List ℕ → List ℕ → List ℕ → ℕ → ℕ → Met
-metOf ws ks marks base c =
+unfoldable pub meetOf : List ℕ → List ℕ → List ℕ → ℕ → ℕ → Met
+meetOf ws ks marks base c =
     cond (ltb (indexOf c) base) met.Before
     (cond (leb (base + windowSize) (indexOf c)) (met.Behind (indexOf c))
     (cond (clashes ws ks marks base c) met.Conflict met.Marked))
