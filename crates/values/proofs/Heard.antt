@@ -13,7 +13,6 @@ use Rattle.definitions.specs.Number.{leading, value}
 use Rattle.definitions.specs.Bytes.{plus, minus, tilde, letterX}
 use Rattle.definitions.specs.Limits.{fileNumberLimit}
 use Rattle.definitions.specs.Literal.{codeOf, index, isIndex}
-
 use Rattle.definitions.specs.Values.{Item, untagged, token, wholeNumber, literalFor, signedFor, signedToken, namedVariable, xToken, conflicts, anyConflict, hear, literalsOf}
 use Rattle.values.specs.Said.{tokenSays, formBy}
 use Rattle.values.specs.Flat.{Placed, placed, codeIn, saidBy, stopOf}

@@ -6,7 +6,6 @@ pub mod Spots
 pub mod Bits
 pub mod Known
 pub mod Says
-pub mod Lists
 pub mod Strings
 pub mod Split
 pub mod Places

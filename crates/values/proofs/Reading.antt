@@ -1,8 +1,8 @@
 -- What a block that was heard makes of a call: refused as it was heard; 12, where the shorter row has too few words; or both rows with their bits. And what is heard of signed numbers and `x`
 -- tokens, from where the first walk stopped and the first conflict before it.
 use Prim.Native.Nat.{ℕ, _+_, _/_, _%_, _≤_, _<_, min}
-use mathlib.Core.Path.{_≡_, refl, sym, ap, _∙_}
-use mathlib.Core.Bool.{Bool, true, false, cond}
+use mathlib.Core.Path.{_≡_, refl, sym, ap, subst, _∙_}
+use mathlib.Core.Bool.{Bool, true, false, cond, not}
 use mathlib.Core.List.{List, [], _∷_, map}
 use native.Mathlib.Omega.{arith}
 use borrow.Author.Tests.{ne-eqb}
@@ -17,10 +17,32 @@ use Rattle.values.specs.Windows.{conflictAt, PlacesBelow}
 use Rattle.values.specs.Reads.{ReadsValues}
 use Rattle.values.specs.declared.ValuesRead.{ValuesRead}
 use Rattle.values.specs.declared.ValuesRead.the-variants as read
+use Rattle.values.specs.declared.survey.Surveyed.{Surveyed}
 use Rattle.values.proofs.Heard.{flatly, stopped, hear-flatly, flatly-conflict, flatly-fine}
 use Rattle.values.proofs.Places.{orderly}
 
 -- ---- from what was heard to the call
+
+pub was-false : (b : Bool) → not b ≡ true → b ≡ false
+was-false true e = let z : _≡_ {A = ℕ} 0 1 = cc in absurd (omega arith)
+was-false false e = refl
+
+pub was-true : (b : Bool) → not b ≡ false → b ≡ true
+was-true true e = refl
+was-true false e = let z : _≡_ {A = ℕ} 0 1 = cc in absurd (omega arith)
+
+-- nothing was said: the length stays
+pub length-kept : (n : ℕ) → n ≡ lengthAfter n []
+unfolding lengthAfter
+length-kept n = refl
+
+pub valued-nothing : (ws : List ℕ) → ws ≡ valued [] ws
+unfolding valued
+valued-nothing ws = refl
+
+pub marked-nothing : (ks : List ℕ) → ks ≡ marked [] ks
+unfolding marked
+marked-nothing ks = refl
 
 -- an empty block
 pub read-empty : (s : List ℕ) (n : ℕ) (ws ks : List ℕ) (r : ValuesRead) → length s ≡ 0 → r ≡ read.Refused 20 0 → ReadsValues s n ws ks r ws ks
@@ -72,7 +94,7 @@ module _ (s : List ℕ) (n : ℕ) (ws ks : List ℕ) where
           record {
             answer = ap saidRead q ∙ ap accepted long ∙ sym (ap (newLength n) v);
             values = x ∙ sym (ap (λ (z : Outcome (List ℕ)). valuesAfter z ws) v);
-            known = y ∙ sym (ap (λ (z : Outcome (List ℕ)). knownAfter z ks) v)
+            known = y ∙ sym (ap (λ (z : Outcome (List ℕ)). knownAfter z ks) v);
           }
         where
           fine : (l : ℕ) → needed ≡ wordsFor l → leb needed (min (length ws) (length ks)) ≡ true
@@ -111,3 +133,32 @@ module _ (s : List ℕ) (named : Bool) (n : ℕ) (ws ks : List ℕ) (form : form
 
   pub heard-all : stop .place ≤ conflict → stop .number ≡ 0 → Heard s n ws ks ≡ accepted (map codeIn (saidBy named items))
   heard-all h k = fine h ∙ ap (λ (m : ℕ). cond (eqb m 0) (accepted (map codeIn (saidBy named items))) (refused stop)) k
+
+  -- in the words of the two walks' answers
+  module _ (found : Surveyed) (is : found ≡ surveyOf named (length s) n items) where
+    placed-at : found .place ≡ stop .place
+    placed-at = ap (λ (r : Surveyed). r .place) is
+
+    numbered : found .number ≡ stop .number
+    numbered = ap (λ (r : Surveyed). r .number) is
+
+    pub found-below : PlacesBelow (found .place) (saidBy named items)
+    found-below = subst (λ (p : ℕ). PlacesBelow p (saidBy named items)) (sym placed-at) below-stop
+
+    pub found-length : found .length ≡ lengthAfter n (map codeIn (saidBy named items))
+    found-length = ap (λ (r : Surveyed). r .length) is
+
+    module _ (first : ℕ) (at : first ≡ conflictAt ws ks [] (found .place) (saidBy named items)) where
+      first-at : first ≡ conflict
+      first-at = at ∙ ap (λ (p : ℕ). conflictAt ws ks [] p (saidBy named items)) placed-at
+
+      pub found-conflict : first < found .place → Heard s n ws ks ≡ refused (refusal 22 first)
+      found-conflict h = heard-conflict (omega (arith, first-at, placed-at)) ∙ ap (λ (p : ℕ). refused (refusal 22 p)) (sym first-at)
+
+      pub found-stop : found .place ≤ first → (found .number ≡ 0 → ⊥) → Heard s n ws ks ≡ refused (refusal (found .number) (found .place))
+      found-stop h k =
+          heard-stop (omega (arith, first-at, placed-at)) (λ e. k (numbered ∙ e))
+          ∙ ap (λ (m : ℕ). refused (refusal m (stop .place))) (sym numbered) ∙ ap (λ (p : ℕ). refused (refusal (found .number) p)) (sym placed-at)
+
+      pub found-all : found .place ≤ first → found .number ≡ 0 → Heard s n ws ks ≡ accepted (map codeIn (saidBy named items))
+      found-all h k = heard-all (omega (arith, first-at, placed-at)) (sym numbered ∙ k)

@@ -113,13 +113,13 @@ loop-again c =
     let i = d .before .loop .inv in
     let a = ahead _ _ _ _ (d .next-token .ensures .1) (c .before .end .given .1) in
     let e = settle-nothing _ _ (d .before .loop .values) _ _ (step d _ (c .before .end .given .1)) in
-    record
-      { within = a .2
-      ; values-length = i .values-length
-      ; known-length = i .known-length
-      ; values = ap (λ (cs : List ℕ). valued cs (d .before .loop .values)) (sym e) ∙ i .values
-      ; known = ap (λ (cs : List ℕ). marked cs (d .before .loop .known)) (sym e) ∙ i .known
-      }
+    record {
+      within = a .2;
+      values-length = i .values-length;
+      known-length = i .known-length;
+      values = ap (λ (cs : List ℕ). valued cs (d .before .loop .values)) (sym e) ∙ i .values;
+      known = ap (λ (cs : List ℕ). marked cs (d .before .loop .known)) (sym e) ∙ i .known;
+    }
 
 loop-less-2 : tie.Need-loop-less-2 Inv-loop μ-loop
 loop-less-2 c =
@@ -134,13 +134,13 @@ loop-again-2 c =
     let m = c .before .before .before .before in
     let a = ahead _ _ _ _ (d .next-token .ensures .1) (said c .end2 .given .1) in
     let e = step d _ (said c .end2 .given .1) in
-    record
-      { within = a .2
-      ; values-length = ap length (m .make-true .ensures .0) ∙ length-valued _ _ ∙ i .values-length
-      ; known-length = ap length (m .make-true .ensures .1) ∙ length-marked _ _ ∙ i .known-length
-      ; values = ap (valued _) (m .make-true .ensures .0) ∙ sym (settle-says _ _ _ _ _ _ e .0) ∙ i .values
-      ; known = ap (marked _) (m .make-true .ensures .1) ∙ sym (settle-says _ _ _ _ _ _ e .1) ∙ i .known
-      }
+    record {
+      within = a .2;
+      values-length = ap length (m .make-true .ensures .0) ∙ length-valued _ _ ∙ i .values-length;
+      known-length = ap length (m .make-true .ensures .1) ∙ length-marked _ _ ∙ i .known-length;
+      values = ap (valued _) (m .make-true .ensures .0) ∙ sym (settle-says _ _ _ _ _ _ e .0) ∙ i .values;
+      known = ap (marked _) (m .make-true .ensures .1) ∙ sym (settle-says _ _ _ _ _ _ e .1) ∙ i .known;
+    }
 
 pub settle-spec : {M : Type 1} → statement M
 settle-spec =

@@ -85,10 +85,10 @@ loop-again : tie.Need-loop-again Inv-loop μ-loop
 loop-again c =
     let d = c .before .before .before in
     let a = ahead _ _ _ _ (d .next-token .ensures .1) (c .before .end .given .1) in
-    record
-      { within = a .2
-      ; rest = sym (survey-nothing _ _ _ _ _ _ (step d _ (c .before .end .given .1))) ∙ d .before .loop .inv .rest
-      }
+    record {
+      within = a .2;
+      rest = sym (survey-nothing _ _ _ _ _ _ (step d _ (c .before .end .given .1))) ∙ d .before .loop .inv .rest;
+    }
 
 loop-less-2 : tie.Need-loop-less-2 Inv-loop μ-loop
 loop-less-2 c =
@@ -100,11 +100,11 @@ loop-again-2 : tie.Need-loop-again-2 Inv-loop μ-loop
 loop-again-2 c =
     let d = c .before .before .before .before in
     let a = ahead _ _ _ _ (d .next-token .ensures .1) (c .before .before .end2 .given .1) in
-    record
-      { within = a .2
-      ; rest = longer _ _ _ _ _ (c .past .ensures) ∙ sym (survey-says _ _ _ _ _ _ _ (step d _ (c .before .before .end2 .given .1)))
-            ∙ d .before .loop .inv .rest
-      }
+    record {
+      within = a .2;
+      rest = longer _ _ _ _ _ (c .past .ensures) ∙ sym (survey-says _ _ _ _ _ _ _ (step d _ (c .before .before .end2 .given .1)))
+          ∙ d .before .loop .inv .rest;
+    }
 
 pub survey-spec : {M : Type 1} → statement M
 survey-spec =
