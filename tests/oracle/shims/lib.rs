@@ -1,4 +1,4 @@
-//! The oracle: rustsat's reader and writer of OPB files, each as one function over plain data.
+//! The oracle: rustsat's reader and writer of OPB files, and its reader of a solver's value lines, each as one function over plain data.
 //!
 //! rustsat's own: types.rs, instances.rs, instances/fio.rs, instances/fio/opb.rs, byte for byte. Shims, written for this test: this file, solvers.rs, types/constraints.rs, instances/sat.rs,
 //! instances/opt.rs, instances/fio/dimacs.rs and the crate `visibility`. A shim records what it is given and computes nothing.
@@ -13,7 +13,7 @@ use std::cell::Cell;
 use std::io::{self, BufRead, Read};
 use std::panic::{catch_unwind, set_hook, take_hook, AssertUnwindSafe};
 use types::constraints::{CardConstraint, Clause, PbConstraint};
-use types::{Lit, Var};
+use types::{Assignment, Lit, TernaryVal, Var};
 
 /// The kinds of rows, numbered as in the columns of the library under test.
 pub mod kind {
@@ -57,6 +57,21 @@ pub enum Reading {
 #[derive(Clone, Debug, PartialEq, Eq)]
 pub enum Writing {
     Bytes(Vec<u8>),
+    Panic(String),
+}
+
+/// An assignment: its length, and the variables that it has a value for, in their order
+#[derive(Clone, Debug, Default, PartialEq, Eq)]
+pub struct Known {
+    pub length: usize,
+    pub values: Vec<(u32, bool)>,
+}
+
+/// What the Rust makes of a block of value lines
+#[derive(Clone, Debug, PartialEq, Eq)]
+pub enum Valuing {
+    Success,
+    Error(String),
     Panic(String),
 }
 
@@ -151,6 +166,20 @@ fn weighted(row: &Row) -> Vec<(Lit, usize)> {
 
 fn literal(code: u32) -> Lit {
     Var::new(code / 2).lit(code % 2 == 1)
+}
+
+/// `extend_from_vline` on an assignment: its answer, and the assignment afterwards, whatever the answer
+pub fn extend(before: &Known, block: &str) -> (Valuing, Known) {
+    let mut values = vec![TernaryVal::DontCare; before.length];
+    before.values.iter().for_each(|&(variable, value)| values[variable as usize] = TernaryVal::from(value));
+    let mut assignment = Assignment::from(values);
+    let answer = match caught(|| assignment.extend_from_vline(block)) {
+        Ok(Ok(())) => Valuing::Success,
+        Ok(Err(error)) => Valuing::Error(error.to_string()),
+        Err(panic) => Valuing::Panic(panic),
+    };
+    let values = assignment.iter().map(|literal| (literal.vidx32(), literal.is_pos())).collect();
+    (answer, Known { length: assignment.len(), values })
 }
 
 thread_local! {
