@@ -15,3 +15,7 @@ pub mod Checks
 pub mod Reading
 pub mod Forms
 pub mod Searching
+pub mod Rows
+pub mod Agreeing
+pub mod Leaves
+pub mod Kept
