@@ -15,3 +15,4 @@ pub mod Checks
 pub mod Reading
 pub mod Forms
 pub mod Searching
+pub mod OneAnswer
