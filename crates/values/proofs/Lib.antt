@@ -19,3 +19,4 @@ pub mod Rows
 pub mod Agreeing
 pub mod Leaves
 pub mod Kept
+pub mod OneAnswer
