@@ -25,6 +25,7 @@ use Rattle.normaliser.specs.Normalises.{Normalises}
 use Rattle.normaliser.proofs.normalise.Reads as normalise
 use Rattle.evaluator.proofs.evaluate.Reads as evaluate
 use Rattle.evaluator.proofs.evaluate_known.Reads as evaluate-known
+use Rattle.evaluator.proofs.Meant.{looked}
 use Rattle.values.specs.Reads.{ReadsValues}
 use Rattle.values.proofs.read_values.Reads as read-values
 use Rattle.promise.proofs.Lent.{columns}
