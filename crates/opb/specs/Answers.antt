@@ -1,4 +1,4 @@
--- What each answer of src/answers.rt is, for a refusal and for what a call found. `refusal` is 0 where the call accepted, else 01's number, with its place; then every other number is 0. No
+-- What each answer of src/answers.rt is, for a refusal and for what a call found. `refusal` is 0 where the call accepted, else the refusal's number, with its place; then every other number is 0. No
 -- refusal has the number 0 (proofs/Refusals.antt).
 use Prim.Native.Nat.{ℕ}
 use mathlib.Core.Bool.{Bool, cond}

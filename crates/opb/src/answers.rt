@@ -1,4 +1,4 @@
-// What the calls answer, by value, so that a refused call has nothing to write. `refusal` is 0 exactly where the call accepted, else 01's number; then `place` is its place and every other
+// What the calls answer, by value, so that a refused call has nothing to write. `refusal` is 0 exactly where the call accepted, else the refusal's number; then `place` is its place and every other
 // number is 0. specs/Answers.antt has the answer for each outcome. Assumes nothing.
 ghost use mathlib.Core.Path.{_≡_};
 ghost use Rattle.definitions.specs.Refusal.{refusal};
