@@ -9,6 +9,10 @@
  *   long   3, first:4, length:8: a file of that length whose first byte is an LF, and whose others are zero and never looked at
  *          -> answer of opb_count
  *
+ *   values 4, length:8, words of both rows:4 4, blocks:4, both rows; each block as length:4 and its bytes
+ *          -> for each block, on the rows and the length that the one before left: answer of opb_values, touched:1, both rows; where the answer is 12 and asks for no more than GROWN words, both
+ *             rows are lent with so many at least, the new ones 0, and the same stands there for the second call
+ *
  * touched is 1 where an entry that should have stayed did not: any entry of a refused call, any behind the entries counted of an accepted one, any behind the room lent. */
 #include <stdint.h>
 #include <stdio.h>
@@ -18,7 +22,7 @@
 
 #include "opb.h"
 
-enum { ROOM = 1 << 16, GUARD = 8, WORDS = 2, MARK = 0xA5 };
+enum { ROOM = 1 << 16, GUARD = 8, WORDS = 2, GROWN = 4096, MARK = 0xA5 };
 
 /* a table: six columns, each longer than any room that is lent by GUARD entries */
 typedef struct {
@@ -183,12 +187,61 @@ static void long_call(void) {
   munmap(file, length);
 }
 
+/* a row of words of an assignment, longer than any that is lent by GUARD words */
+typedef struct {
+  uint64_t words[GROWN + GUARD];
+  uint32_t length;
+} row;
+
+static row values_row, known_row;
+
+static void mark_row(row *r) { memset(r->words + r->length, MARK, 8 * GUARD); }
+
+static void grow_row(row *r, size_t length) {
+  while (r->length < length) r->words[r->length++] = 0;
+}
+
+static opb_length one_values_call(const uint8_t *block, uint32_t block_length, uint64_t length) {
+  mark_row(&values_row);
+  mark_row(&known_row);
+  opb_length found = opb_values(block, block_length, length, values_row.words, values_row.length, known_row.words, known_row.length);
+  give8(found.refusal);
+  give(&found.place, 8);
+  give(&found.length, 8);
+  give8(!(marked(values_row.words + values_row.length, 8 * GUARD) && marked(known_row.words + known_row.length, 8 * GUARD)));
+  give(values_row.words, 8 * values_row.length);
+  give(known_row.words, 8 * known_row.length);
+  return found;
+}
+
+static void values_call(void) {
+  uint64_t length;
+  take(&length, 8);
+  values_row.length = take32();
+  known_row.length = take32();
+  uint32_t blocks = take32();
+  take(values_row.words, 8 * values_row.length);
+  take(known_row.words, 8 * known_row.length);
+  for (uint32_t i = 0; i < blocks; i++) {
+    uint32_t block_length = take32();
+    opb_length found = one_values_call(next, block_length, length);
+    if (found.refusal == 12 && found.place <= GROWN) {
+      grow_row(&values_row, found.place);
+      grow_row(&known_row, found.place);
+      found = one_values_call(next, block_length, length);
+    }
+    if (!found.refusal) length = found.length;
+    next += block_length;
+  }
+}
+
 static void call(void) {
   uint8_t which;
   take(&which, 1);
   if (which == 1) read_call();
   else if (which == 2) write_call();
   else if (which == 3) long_call();
+  else if (which == 4) values_call();
   else exit(2);
 }
 

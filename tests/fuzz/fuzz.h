@@ -1,4 +1,4 @@
-/* What the parts of the fuzzing harness share: tables as a call takes them, the model (model.c, tables.c), the library's calls with the fault that is planted, if any (library.c), and lent memory
+/* What the parts of the fuzzing harness share: tables as a call takes them, the model (model.c, tables.c, values.c), the library's calls with the fault that is planted, if any (library.c), and lent memory
  * (lent.c). */
 #ifndef FUZZ_H
 #define FUZZ_H
@@ -50,7 +50,10 @@ opb_table model_read(const uint8_t *file, size_t length, uint32_t first, store *
 opb_table model_normalise(const columns *t, store *out);
 opb_value model_evaluate(const columns *t, size_t row, const uint64_t *words, size_t words_length);
 opb_text model_write(const columns *t, const uint8_t *text, size_t text_length, uint32_t first, int plain, uint8_t *out);
+opb_value model_evaluate_known(const columns *t, size_t row, const uint64_t *values, size_t values_length, const uint64_t *known, size_t known_length);
 opb_text model_list(const columns *t, size_t rows, uint32_t first, uint8_t *out);
+/* a block has no more than TEXT bytes; both rows are then as the call leaves them */
+opb_length model_values(const uint8_t *block, size_t block_length, uint64_t length, uint64_t *values, size_t values_length, uint64_t *known, size_t known_length);
 
 size_t row_room(const columns *t);
 size_t term_room(const columns *t);
@@ -65,6 +68,8 @@ opb_table library_count(const uint8_t *file, size_t length, uint32_t first);
 opb_table library_read(const uint8_t *file, size_t length, uint32_t first, const columns *out);
 opb_table library_normalise(const columns *t, const columns *out);
 opb_value library_evaluate(const columns *t, size_t row, const uint64_t *words, size_t words_length);
+opb_value library_evaluate_known(const columns *t, size_t row, const uint64_t *values, size_t values_length, const uint64_t *known, size_t known_length);
+opb_length library_values(const uint8_t *block, size_t block_length, uint64_t length, uint64_t *values, size_t values_length, uint64_t *known, size_t known_length);
 opb_text library_write(const columns *t, const uint8_t *text, size_t text_length, uint32_t first, int plain, uint8_t *out, size_t out_length);
 opb_text library_list(const columns *t, size_t rows, uint32_t first, uint8_t *out, size_t out_length);
 

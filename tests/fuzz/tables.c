@@ -91,18 +91,25 @@ opb_table model_normalise(const columns *t, store *out) {
 
 /* ---- evaluating */
 
-static uint64_t ones(const uint64_t *words, size_t length) {
+/* so many words of values and of what is known; all is where there are no such words */
+typedef struct {
+    const uint64_t *values, *known;
+    size_t length;
+} assignment;
+
+static uint64_t ones(const assignment *a) {
     uint64_t sum = 0;
-    for (size_t i = 0; i < length; i++) sum += (uint64_t)__builtin_popcountll(words[i]);
+    for (size_t i = 0; i < a->length; i++) sum += (uint64_t)__builtin_popcountll(a->known ? a->values[i] & a->known[i] : a->values[i]);
     return sum;
 }
 
 /* 12, or 0 and the sum */
-static int value_of(const columns *t, size_t row, const uint64_t *words, size_t length, __int128 *sum) {
+static int value_of(const columns *t, size_t row, const assignment *a, __int128 *sum) {
+    const uint64_t *words = a->values;
     *sum = 0;
     for (size_t i = t->firsts[row]; i < t->firsts[row] + t->counts[row]; i++) {
         uint32_t code = t->literals[i], v = code / 2;
-        if (v / 64 >= length) return 12;
+        if (v / 64 >= a->length || (a->known && !(a->known[v / 64] >> v % 64 & 1))) return 12;
         if ((words[v / 64] >> v % 64 & 1) != code % 2) *sum += t->weights[i];
     }
     return 0;
@@ -113,17 +120,26 @@ static int holds(uint8_t kind, __int128 sum, int64_t bound) {
     return kind == OPB_AT_MOST ? sum <= bound : sum == bound;
 }
 
-opb_value model_evaluate(const columns *t, size_t row, const uint64_t *words, size_t length) {
+static opb_value evaluated(const columns *t, size_t row, const assignment *a) {
     __int128 sum;
     uint8_t kind = row < row_room(t) ? t->kinds[row] : OPB_COMMENT;
     if (kind == OPB_COMMENT || kind > OPB_OBJECTIVE || outside(t, row)) return (opb_value){.refusal = 11, .place = row};
     if (sizes(t, row) > INT64_MAX) return (opb_value){.refusal = 8, .place = row};
-    if (value_of(t, row, words, length, &sum)) return (opb_value){.refusal = 12, .place = row};
-    uint64_t count = ones(words, length);
+    if (value_of(t, row, a, &sum)) return (opb_value){.refusal = 12, .place = row};
+    uint64_t count = ones(a);
     if (kind != OPB_OBJECTIVE) return (opb_value){.value = (int64_t)sum, .holds = (uint8_t)holds(kind, sum, t->bounds[row]), .ones = count};
     sum += t->bounds[row];
     if (!fits(sum)) return (opb_value){.refusal = 8, .place = row};
     return (opb_value){.value = (int64_t)sum, .holds = 2, .ones = count};
+}
+
+opb_value model_evaluate(const columns *t, size_t row, const uint64_t *words, size_t length) {
+    return evaluated(t, row, &(assignment){words, NULL, length});
+}
+
+opb_value model_evaluate_known(const columns *t, size_t row, const uint64_t *values, size_t values_length, const uint64_t *known, size_t known_length) {
+    static const uint64_t none;
+    return evaluated(t, row, &(assignment){values, known_length ? known : &none, lesser(values_length, known_length)});
 }
 
 /* ---- writing */

@@ -4,8 +4,8 @@ use crate::library::{Answer, Counts, Filled, ReadAnswer, Value, WriteAnswer};
 use crate::meaning::{covered, holds, normalises, sum, Assignment};
 use crate::rules::{judge, Index, Judged, Limits};
 use crate::table::{Case, ReadCase, WriteCase};
-use crate::writing;
-use rustsat::{kind, Reading, Row, Writing};
+use crate::{valuing, writing};
+use rustsat::{kind, Known, Reading, Row, Valuing, Writing};
 
 /// What was seen in a case, for the summary: the refusal, whether it lay in the domain, the differences asserted
 #[derive(Debug, Default)]
@@ -16,6 +16,8 @@ pub struct Seen {
     /// rows and values that were compared with the Rust's
     pub rows: u64,
     pub values: u64,
+    /// of each block of value lines its refusal and whether it lay in the domain
+    pub blocks: Vec<(u8, bool)>,
 }
 
 pub type Verdict = Result<Seen, String>;
@@ -25,6 +27,7 @@ pub type Verdict = Result<Seen, String>;
 pub enum Rust {
     Read(Reading),
     Write(Option<Writing>),
+    Values(Vec<Option<(Valuing, Known)>>),
     Unasked,
 }
 
@@ -32,6 +35,7 @@ pub fn ask_rust(case: &Case) -> Rust {
     match case {
         Case::Read(case) => Rust::Read(rustsat::read(&case.file, case.first)),
         Case::Write(case) => Rust::Write(ask_writer(case)),
+        Case::Values(case) => Rust::Values(valuing::ask(case)),
         Case::Long(_) => Rust::Unasked,
     }
 }
@@ -49,12 +53,13 @@ pub fn compare(case: &Case, answer: &Answer, rust: &Rust) -> Verdict {
     match (case, answer, rust) {
         (Case::Read(case), Answer::Read(answer), Rust::Read(reading)) => compare_read(case, answer, reading),
         (Case::Write(case), Answer::Write(answer), Rust::Write(written)) => compare_write(case, answer, written.as_ref()),
+        (Case::Values(case), Answer::Values(answers), Rust::Values(rust)) => valuing::compare(case, answers, rust),
         (Case::Long(length), Answer::Long(counts), _) => compare_long(*length, counts),
         _ => Err("an answer to another question".into()),
     }
 }
 
-fn ensure(truth: bool, message: impl FnOnce() -> String) -> Result<(), String> {
+pub fn ensure(truth: bool, message: impl FnOnce() -> String) -> Result<(), String> {
     if truth { Ok(()) } else { Err(message()) }
 }
 
@@ -83,7 +88,7 @@ fn compare_read(case: &ReadCase, answer: &ReadAnswer, reading: &Reading) -> Verd
         compare_meaning(case, answer, &reference)?;
     }
     let rows = if domain { answer.read.counts.rows } else { 0 };
-    Ok(Seen { refusal: expected.refusal, domain, differences: differences(case, &judged, expected.refusal), rows, values: 2 * rows * case.assignments.len() as u64 })
+    Ok(Seen { refusal: expected.refusal, domain, differences: differences(case, &judged, expected.refusal), rows, values: 2 * rows * case.assignments.len() as u64, ..Seen::default() })
 }
 
 /// The library against 01's own text: refusal and place, counts, what stays as it was

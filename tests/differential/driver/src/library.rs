@@ -1,7 +1,7 @@
 //! The library under test, behind the runner: runner.c says what goes over the pipes. A batch is sent whole and answered whole, so that neither side waits for the other while both are writing.
 
 use crate::meaning::Assignment;
-use crate::table::{Case, ReadCase, Table, WriteCase};
+use crate::table::{Case, ReadCase, Table, ValuesCase, WriteCase};
 use std::io::{Read, Write};
 use std::process::{Child, Command, Stdio};
 
@@ -48,10 +48,25 @@ pub struct WriteAnswer {
     pub bytes: Vec<u8>,
 }
 
+/// A call on a block of value lines: its answer, whether it changed what it should not, both rows afterwards
+#[derive(Clone, Debug)]
+pub struct Valued {
+    pub refusal: u8,
+    pub place: u64,
+    pub length: u64,
+    pub touched: bool,
+    pub values: Vec<u64>,
+    pub known: Vec<u64>,
+}
+
+/// Up to so many words the runner lends more where it is told 12, and calls again
+pub const GROWN: u64 = 4096;
+
 #[derive(Clone, Debug)]
 pub enum Answer {
     Read(ReadAnswer),
     Write(WriteAnswer),
+    Values(Vec<Vec<Valued>>),
     Long(Counts),
 }
 
@@ -90,6 +105,7 @@ impl Library {
 impl Drop for Library {
     fn drop(&mut self) {
         drop(self.runner.stdin.take());
+        drop(self.runner.stdout.take());
         let _ = self.runner.wait();
     }
 }
@@ -98,6 +114,7 @@ fn put_case(batch: &mut Vec<u8>, case: &Case) {
     match case {
         Case::Read(case) => put_read(batch, case),
         Case::Write(case) => put_write(batch, case),
+        Case::Values(case) => put_values(batch, case),
         Case::Long(length) => {
             batch.push(3);
             batch.extend(1u32.to_le_bytes());
@@ -132,10 +149,23 @@ fn put_write(batch: &mut Vec<u8>, case: &WriteCase) {
     batch.extend(&case.text);
 }
 
+fn put_values(batch: &mut Vec<u8>, case: &ValuesCase) {
+    let before = &case.before;
+    batch.push(4);
+    batch.extend(before.length.to_le_bytes());
+    [before.values.len(), before.known.len(), case.blocks.len()].iter().for_each(|count| batch.extend((*count as u32).to_le_bytes()));
+    before.values.iter().chain(&before.known).for_each(|word| batch.extend(word.to_le_bytes()));
+    for block in &case.blocks {
+        batch.extend((block.len() as u32).to_le_bytes());
+        batch.extend(block);
+    }
+}
+
 fn take_answer(from: &mut Bytes, case: &Case) -> Answer {
     match case {
         Case::Read(case) => Answer::Read(take_read(from, &case.assignments)),
         Case::Write(_) => Answer::Write(take_write(from)),
+        Case::Values(case) => Answer::Values(take_values(from, case)),
         Case::Long(_) => Answer::Long(from.counts()),
     }
 }
@@ -156,6 +186,19 @@ fn take_write(from: &mut Bytes) -> WriteAnswer {
     let (refusal, place, length) = (from.byte(), from.word(), from.word());
     let touched = from.byte() != 0;
     WriteAnswer { refusal, place, touched, bytes: from.many(length, Bytes::byte) }
+}
+
+fn take_values(from: &mut Bytes, case: &ValuesCase) -> Vec<Vec<Valued>> {
+    let mut words = [case.before.values.len() as u64, case.before.known.len() as u64];
+    let mut each = |_: &Vec<u8>| {
+        let mut calls = vec![from.valued(words)];
+        if calls[0].refusal == 12 && calls[0].place <= GROWN {
+            words = words.map(|count| count.max(calls[0].place));
+            calls.push(from.valued(words));
+        }
+        calls
+    };
+    case.blocks.iter().map(|block| each(block)).collect()
 }
 
 struct Bytes<'a>(&'a [u8]);
@@ -193,6 +236,12 @@ impl Bytes<'_> {
 
     fn value(&mut self) -> Value {
         Value { refusal: self.byte(), place: self.word(), value: self.signed(), holds: self.byte(), ones: self.word() }
+    }
+
+    fn valued(&mut self, words: [u64; 2]) -> Valued {
+        let (refusal, place, length) = (self.byte(), self.word(), self.word());
+        let touched = self.byte() != 0;
+        Valued { refusal, place, length, touched, values: self.many(words[0], Bytes::word), known: self.many(words[1], Bytes::word) }
     }
 
     fn filled(&mut self) -> Filled {

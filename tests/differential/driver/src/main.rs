@@ -1,5 +1,6 @@
-//! The differential run: the library against rustsat's own reader and writer, over exhaustive, random and damaged inputs. tests/differential/run says how it is called.
+//! The differential run: the library against rustsat's own reader and writer and its reader of value lines, over exhaustive, random and damaged inputs. tests/differential/run says how it is called.
 
+mod blocks;
 mod compare;
 mod files;
 mod library;
@@ -11,12 +12,14 @@ mod rows;
 mod rules;
 mod table;
 mod tally;
+mod values;
+mod valuing;
 mod writing;
 
 use compare::{ask_rust, compare, show, Verdict};
 use library::Library;
 use random::Random;
-use table::{Case, ReadCase};
+use table::{Case, ReadCase, ValuesCase};
 use tally::Tally;
 
 const BATCH: usize = 4000;
@@ -46,12 +49,14 @@ fn asked() -> Asked {
     asked
 }
 
-/// Every case of a run: the exhaustive ones, then so many random ones, three in four to be read
+/// Every case of a run: the exhaustive ones, then so many random ones, three in four to be read; then blocks of value lines, every short one and half as many random cases
 fn cases(seed: u64, count: usize) -> impl Iterator<Item = Case> {
     let long = [1_073_741_823, 1_073_741_824, 4_294_967_296].map(Case::Long);
     let mut random = Random::new(seed);
     let others = (0..count).map(move |_| if random.once_in(4) { rows::random(&mut random) } else { files::random(&mut random) });
-    long.into_iter().chain(files::exhaustive()).chain(rows::exhaustive()).chain(others)
+    let mut lines = Random::new(seed);
+    let values = (0..count / 2).map(move |_| blocks::random(&mut lines));
+    long.into_iter().chain(files::exhaustive()).chain(rows::exhaustive()).chain(others).chain(blocks::exhaustive()).chain(values)
 }
 
 /// A batch through library and oracle; the oracle works while the library does
@@ -69,6 +74,7 @@ fn size(case: &Case) -> usize {
     match case {
         Case::Read(case) => case.file.len(),
         Case::Write(case) => case.table.kinds.len() + case.table.weights.len() + case.text.len(),
+        Case::Values(case) => case.blocks.iter().map(|block| block.len() + 1).sum::<usize>() + case.before.values.len() + case.before.known.len(),
         Case::Long(_) => 0,
     }
 }
@@ -109,7 +115,7 @@ fn note(tally: &mut Tally, worst: &mut Option<Unexplained>, case: &Case, verdict
     }
 }
 
-/// Takes bytes out of a file as long as it stays unexplained
+/// Takes bytes out of a file or a block as long as it stays unexplained
 fn shrink(library: &mut Library, found: &mut Unexplained, fault: Option<&str>) {
     while let Some((case, message)) = shorter(&found.case).into_iter().find_map(|case| {
         let verdict = verdicts(library, std::slice::from_ref(&case), fault).remove(0);
@@ -120,20 +126,37 @@ fn shrink(library: &mut Library, found: &mut Unexplained, fault: Option<&str>) {
     }
 }
 
-/// A file with one byte less, for each byte
+/// A file with one byte less, for each byte; blocks likewise, and with a block less
 fn shorter(case: &Case) -> Vec<Case> {
     let case = match case {
         Case::Read(case) => case,
+        Case::Values(case) => return shorter_blocks(case),
         _ => return Vec::new(),
     };
     let without = |at: usize| [&case.file[..at], &case.file[at + 1..]].concat();
     (0..case.file.len()).map(|at| Case::Read(ReadCase { file: without(at), lengths: None, ..case.clone() })).collect()
 }
 
+fn shorter_blocks(case: &ValuesCase) -> Vec<Case> {
+    let mut cases = Vec::new();
+    for at in 0..case.blocks.len() {
+        let mut fewer = case.clone();
+        fewer.blocks.remove(at);
+        cases.push(fewer);
+        for byte in 0..case.blocks[at].len() {
+            let mut less = case.clone();
+            less.blocks[at].remove(byte);
+            cases.push(less);
+        }
+    }
+    cases.into_iter().map(Case::Values).collect()
+}
+
 fn print_case(found: &Unexplained) {
     println!("{}", found.message);
     match &found.case {
         Case::Read(case) => println!("smallest input, first index {}: \"{}\"", case.first, show(&case.file)),
+        Case::Values(case) => println!("smallest input, on {:x?}: {:?}", case.before, case.blocks.iter().map(|block| show(block)).collect::<Vec<_>>()),
         other => println!("smallest input: {other:?}"),
     }
 }

@@ -1,16 +1,17 @@
 //! Planted faults: the library's answers told wrong on purpose, to show that the run finds each.
 
-use crate::library::{Answer, ReadAnswer};
+use crate::library::{Answer, ReadAnswer, Valued};
 use crate::rules::{judge, Limits};
 use crate::table::{Case, ReadCase};
 use rustsat::kind;
 
-pub const NAMES: [&str; 7] = ["bound", "less", "row", "silent", "sign", "value", "tilde"];
+pub const NAMES: [&str; 10] = ["bound", "less", "row", "silent", "sign", "value", "tilde", "conflict", "length", "known"];
 
 /// Tells an answer wrong, where it has what the fault needs
 pub fn plant(fault: &str, case: &Case, answer: &mut Answer) {
     match (fault, case, answer) {
         ("tilde", _, Answer::Write(answer)) => answer.bytes.retain(|&byte| byte != b'~'),
+        (_, _, Answer::Values(answers)) => answers.iter_mut().flatten().for_each(|answer| misvalue(fault, answer)),
         ("silent", Case::Read(case), Answer::Read(answer)) => silent(case, answer),
         ("less", Case::Read(case), Answer::Read(answer)) => less(case, answer),
         (_, Case::Read(_), Answer::Read(answer)) if answer.read.counts.refusal == 0 => misread(fault, answer),
@@ -29,6 +30,18 @@ fn misread(fault: &str, answer: &mut ReadAnswer) {
         "sign" => table.literals.iter_mut().for_each(|code| *code &= !1),
         // an evaluator that takes "equal" for "at least"
         "value" => answer.values.iter_mut().for_each(|(values, _)| values.iter_mut().zip(&table.kinds).filter(|value| *value.1 == kind::EQUAL).for_each(|value| value.0.holds = 1)),
+        _ => (),
+    }
+}
+
+fn misvalue(fault: &str, answer: &mut Valued) {
+    match fault {
+        // a conflict that is not seen, as the Rust does not where the variable is true
+        "conflict" if answer.refusal == 22 => (answer.refusal, answer.place) = (0, 0),
+        // a length that the greatest variable is not within
+        "length" if answer.refusal == 0 => answer.length -= u64::from(answer.length > 1),
+        // variables that have a value and are not known
+        "known" if answer.refusal == 0 => answer.known.iter_mut().for_each(|word| *word &= word.wrapping_sub(1)),
         _ => (),
     }
 }

@@ -1,6 +1,7 @@
 //! The library's columns, and cases: what is asked of library and oracle.
 
 use crate::meaning::Assignment;
+use crate::values::Rows;
 use rustsat::{kind, Row};
 
 #[derive(Clone, Debug, Default, PartialEq, Eq)]
@@ -52,6 +53,7 @@ impl Table {
 pub enum Case {
     Read(ReadCase),
     Write(WriteCase),
+    Values(ValuesCase),
     /// a file of this length whose first byte is an LF; only the library is asked
     Long(u64),
 }
@@ -73,4 +75,13 @@ pub struct WriteCase {
     pub plain: bool,
     /// length of the output lent; none: enough
     pub room: Option<u32>,
+}
+
+#[derive(Clone, Debug)]
+pub struct ValuesCase {
+    pub before: Rows,
+    /// blocks of value lines, read one after the other
+    pub blocks: Vec<Vec<u8>>,
+    /// whether the Rust is asked though its assignment takes a gibibyte
+    pub great: bool,
 }
