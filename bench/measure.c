@@ -1,4 +1,4 @@
-/* Times one call: measure WHAT FILE, WHAT one of read, count (the first walk alone), walks, tight, newlines, write, write-plain. Prints the seconds, the bytes that they went over and the peak memory of the process in KB. Columns and outputs
+/* Times one call: measure WHAT FILE, WHAT one of read, count (the first walk alone), walks, tight, newlines, write, write-plain, values (FILE is a block of value lines). Prints the seconds, the bytes that they went over and the peak memory of the process in KB. Columns and outputs
  * are there and touched before the clock starts, and the call has been made once before, as a caller's who reads many files.
  *
  * On x86-64 the library is called as include/opb.h says. Elsewhere the same module was compiled for this processor (bench/library), and the address of the answer is its functions' first parameter. */
@@ -19,6 +19,7 @@ void *at_count() __asm__("opb_count");
 void *at_read() __asm__("opb_read");
 void *at_normalise() __asm__("opb_normalise");
 void *at_write() __asm__("opb_write");
+void *at_values() __asm__("opb_values");
 #define ASK(answer, call, ...) at_##call(&answer, __VA_ARGS__)
 #endif
 
@@ -127,6 +128,21 @@ static void read_walks(void) {
     if (rows != t.rows) exit(1);
 }
 
+/* On an empty assignment, whose rows have the words that an assignment without words was refused for. */
+static void read_values(void) {
+    opb_length a;
+    ASK(a, values, file, length, 0ull, NULL, 0ul, NULL, 0ul);
+    size_t words = a.place;
+    uint64_t *values = room(8 * words), *known = room(8 * words);
+    memset(known, 0, 8 * words);
+    ASK(a, values, file, length, 0ull, values, words, known, words);
+    memset(known, 0, 8 * words);
+    double began = now();
+    ASK(a, values, file, length, 0ull, values, words, known, words);
+    told(began, length);
+    accepted(a.refusal);
+}
+
 /* Inlined into a function that is called once, gcc would not vectorise it. */
 __attribute__((noinline)) static size_t count_newlines(const uint8_t *bytes, size_t count) {
     size_t n = 0;
@@ -155,6 +171,7 @@ int main(int count, char **words) {
     else if (strcmp(words[1], "walks") == 0) read_walks();
     else if (strcmp(words[1], "tight") == 0) read_tight();
     else if (strcmp(words[1], "newlines") == 0) newlines();
+    else if (strcmp(words[1], "values") == 0) read_values();
     else if (strcmp(words[1], "write") == 0) write_table(0);
     else if (strcmp(words[1], "write-plain") == 0) write_table(1);
     else return 2;

@@ -1,5 +1,6 @@
-//! Times rustsat: rustsat-bench WHAT FILE, WHAT one of read, write, write-plain. Prints what bench/measure.c prints, and makes the call once before the clock starts, as it does. The rows written are those of the file without negative weights.
+//! Times rustsat: rustsat-bench WHAT FILE, WHAT one of read, write, write-plain, values (FILE is a block of value lines). Prints what bench/measure.c prints, and makes the call once before the clock starts, as it does. The rows written are those of the file without negative weights.
 
+use rustsat::types::Assignment;
 use rustsat::{kind, Lines, Reading, Row};
 use std::time::Instant;
 
@@ -35,6 +36,15 @@ fn main() {
         let statements = rustsat::count(&file, 1).expect("the file is read");
         told(began, file.len());
         assert!(statements == before);
+        return;
+    }
+    if words[1] == "values" {
+        let block = std::str::from_utf8(&file).expect("text");
+        let before = Assignment::from_vline(block).expect("the block is read").len();
+        let began = Instant::now();
+        let length = Assignment::from_vline(block).expect("the block is read").len();
+        told(began, file.len());
+        assert!(length == before);
         return;
     }
     let Reading::Rows(rows, left) = rustsat::read(&file, 1) else { panic!("the file is read") };

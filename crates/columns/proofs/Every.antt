@@ -9,11 +9,11 @@ use lib.ListN.{length, getD, drop, drop-of-length-le}
 use lib.Seq.{drop-cons}
 use Rattle.columns.specs.Parts.{every}
 
-both-left : (x y : Bool) → x && y ≡ true → x ≡ true
+pub both-left : (x y : Bool) → x && y ≡ true → x ≡ true
 both-left true y e = refl
 both-left false y e = e
 
-both-right : (x y : Bool) → x && y ≡ true → y ≡ true
+pub both-right : (x y : Bool) → x && y ≡ true → y ≡ true
 both-right true y e = e
 both-right false y e = absurd (let z : _≡_ {A = ℕ} 0 1 = cc in omega arith)
 
@@ -35,3 +35,9 @@ module _ (p : ℕ → Bool) where
   every-at [] i e h = absurd (omega arith)
   every-at (c ∷ cs) zero e h = both-left (p c) (every p cs) e
   every-at (c ∷ cs) (suc i) e h = every-at cs i (both-right (p c) (every p cs) e) (omega arith)
+
+-- a test that is less strict
+pub every-less : (p q : ℕ → Bool) → ((c : ℕ) → p c ≡ true → q c ≡ true) → (cs : List ℕ) → every p cs ≡ true → every q cs ≡ true
+unfolding every
+every-less p q f [] e = refl
+every-less p q f (c ∷ cs) e = rw (f c (both-left (p c) (every p cs) e)) (every-less p q f cs (both-right (p c) (every p cs) e))

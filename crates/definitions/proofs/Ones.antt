@@ -70,22 +70,22 @@ true-here w ws (suc k) h =
     rw (true-here w ws k (omega arith), assigned-here w ws k h, bit-counts (bitAt w k) (mod-lt (w / 2 ^ k) (omega arith)))
 
 -- the true ones among m + k variables: among the first m, and among those behind
-true-split : (a : ℕ → Bool) (m k : ℕ) → trueBelow a (m + k) ≡ trueBelow a m + trueBelow (λ v. a (m + v)) k
+pub true-split : (a : ℕ → Bool) (m k : ℕ) → trueBelow a (m + k) ≡ trueBelow a m + trueBelow (λ v. a (m + v)) k
 unfolding trueBelow
 true-split a m zero = let e : m + 0 ≡ m = omega arith in rw e (omega arith)
 true-split a m (suc k) =
     let s : m + suc k ≡ suc (m + k) = omega arith in
     rw (s, trueBelow, true-split a m k) (omega arith)
 
-true-alike : (a b : ℕ → Bool) → ((v : ℕ) → a v ≡ b v) → (k : ℕ) → trueBelow a k ≡ trueBelow b k
+pub true-alike : (a b : ℕ → Bool) (k : ℕ) → ((v : ℕ) → v < k → a v ≡ b v) → trueBelow a k ≡ trueBelow b k
 unfolding trueBelow
-true-alike a b e zero = refl
-true-alike a b e (suc k) = rw (true-alike a b e k, e k)
+true-alike a b zero e = refl
+true-alike a b (suc k) e = rw (true-alike a b k (λ v h. e v (omega arith)), e k (omega arith))
 
 true-behind : (w : ℕ) (ws : List ℕ) (k : ℕ) → trueBelow (assigned (w ∷ ws)) (64 + k) ≡ trueBelow (assigned (w ∷ ws)) 64 + trueBelow (assigned ws) k
 true-behind w ws k =
     true-split (assigned (w ∷ ws)) 64 k
-    ∙ ap (λ (n : ℕ). trueBelow (assigned (w ∷ ws)) 64 + n) (true-alike (λ v. assigned (w ∷ ws) (64 + v)) (assigned ws) (assigned-behind w ws) k)
+    ∙ ap (λ (n : ℕ). trueBelow (assigned (w ∷ ws)) 64 + n) (true-alike (λ v. assigned (w ∷ ws) (64 + v)) (assigned ws) k (λ v h. assigned-behind w ws v))
 
 -- the sum that the code makes
 unfoldable pub onesSummed : List ℕ → ℕ

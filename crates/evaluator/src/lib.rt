@@ -1,5 +1,6 @@
-// The evaluator (01, "Normalising and evaluating"): one row of a table under an assignment lent as words. Each step has a function of its own, from the row's
-// entry down to a single literal. Assumes nothing.
+// The evaluator (01, "Normalising and evaluating"): one row of a table under an assignment lent as words, all of them known or with a second row of words that
+// says which variables are (02, A1). Each step has a function of its own, from the row's entry down to a single literal. The inner ones are lent both rows; with
+// `all` everything that the words hold is known, and the known words are not looked at. Assumes nothing.
 use symbols::Lit;
 ghost use mathlib.Core.Path.{_≡_};
 ghost use mathlib.Core.Bool.{true};
@@ -10,11 +11,11 @@ ghost use Rattle.definitions.specs.Limits.{weightLimit, wordLimit};
 ghost use Rattle.definitions.specs.Literal.{indexOf};
 ghost use Rattle.definitions.specs.Row.{rowOf, sizes};
 ghost use Rattle.definitions.specs.Table.{table, termsOn};
-ghost use Rattle.definitions.specs.Meaning.{isTrue, sumOf, holdsBy, assigned, onesOf};
-ghost use Rattle.definitions.specs.Evaluate.{foundBy, onPlace, evaluating};
+ghost use Rattle.definitions.specs.Meaning.{isTrue, sumOf, holdsBy, assigned};
+ghost use Rattle.definitions.specs.Evaluate.{foundBy, onPlace, within, evaluating, evaluatingKnown};
 ghost use Rattle.evaluator.specs.Said.{saidEvaluated};
 ghost use Rattle.columns.specs.Kinds.{readKind};
-ghost use Rattle.evaluator.specs.Parts.{codesCovered, valued, foundOf, foundAt};
+ghost use Rattle.evaluator.specs.Parts.{knownWord, hasBy, onesBy, codesCovered, valued, foundOf, foundAt, evaluatingOf};
 
 // "The evaluator answers, for one row, the sum and whether it holds; for an objective, the sum plus the bound column ... It also reports the number of ones in
 // the assignment's words."
@@ -39,6 +40,9 @@ const WEIGHT_LIMIT: u64 = 9_223_372_036_854_775_807;
 // "Words after the first 16,777,216 are not looked at."
 const WORD_LIMIT: usize = 16_777_216;
 
+// A word of ones.
+const ALL: u64 = 18_446_744_073_709_551_615;
+
 // The place of each refusal is the row.
 fn refused(number: u8, row: usize) -> Evaluated
     ensures { λ r. ⌜ r ≡ Evaluated.Refused number row ⌝ }
@@ -57,14 +61,35 @@ fn is_true(literal: Lit, words: &[u64]) -> bool
     if literal.is_neg() { !one } else { one }
 }
 
-// Whether every variable has a bit; if not, "variable beyond the assignment".
-fn covered(literals: &[u32], words: &[u64]) -> bool
-    ensures { λ r. ⌜ r ≡ codesCovered (now (words .entry)) (now (literals .entry)) ⌝ }
+// The bits of word i that are known: beyond the known words none.
+fn known_word(known: &[u64], all: bool, i: usize) -> u64
+    ensures { λ r. ⌜ r ≡ knownWord all (now (known .entry)) i ⌝ }
+{
+    if all {
+        return ALL;
+    }
+    if i < known.len() { known[i] } else { 0 }
+}
+
+// Whether a variable has a bit that is known.
+fn has_value(v: usize, words: &[u64], known: &[u64], all: bool) -> bool
+    ensures { λ r. ⌜ r ≡ hasBy all (now (words .entry)) (now (known .entry)) v ⌝ }
+{
+    if v / 64 >= words.len() {
+        return false;
+    }
+    let bits = known_word(known, all, v / 64);
+    (bits >> (v % 64)) % 2 == 1
+}
+
+// Whether every variable has a value; if not, "variable beyond the assignment" or unknown.
+fn covered(literals: &[u32], words: &[u64], known: &[u64], all: bool) -> bool
+    ensures { λ r. ⌜ r ≡ codesCovered (hasBy all (now (words .entry)) (now (known .entry))) (now (literals .entry)) ⌝ }
 {
     let mut i: usize = 0;
     while i < literals.len() {
         let v = Lit::of_code(literals[i]).var().index() as usize;
-        if v / 64 >= words.len() {
+        if !has_value(v, words, known, all) {
             return false;
         }
         i += 1;
@@ -76,7 +101,7 @@ fn covered(literals: &[u32], words: &[u64]) -> bool
 fn sum_of(weights: &[i64], literals: &[u32], words: &[u64]) -> i64
     requires lengths { ⌜ length (now weights) ≡ length (now literals) ⌝ }
     requires small { ⌜ sizes (termsOn (now weights) (now literals)) ≤ weightLimit ⌝ }
-    requires covers { ⌜ codesCovered (now words) (now literals) ≡ true ⌝ }
+    requires covers { ⌜ codesCovered (within (now words)) (now literals) ≡ true ⌝ }
     ensures { λ r. ⌜ r ≡ sumOf (assigned (now (words .entry))) (termsOn (now (weights .entry)) (now (literals .entry))) ⌝ }
 {
     let mut sum: i64 = 0;
@@ -91,15 +116,16 @@ fn sum_of(weights: &[i64], literals: &[u32], words: &[u64]) -> i64
     sum
 }
 
-// "The number of ones in the assignment's words."
-fn ones_of(words: &[u64]) -> u64
+// "The number of ones in the assignment's words", of those that are known.
+fn ones_of(words: &[u64], known: &[u64], all: bool) -> u64
     requires { ⌜ length (now words) ≤ wordLimit ⌝ }
-    ensures { λ r. ⌜ r ≡ onesOf (now (words .entry)) ⌝ }
+    ensures { λ r. ⌜ r ≡ onesBy all (now (words .entry)) (now (known .entry)) ⌝ }
 {
     let mut ones: u64 = 0;
     let mut i: usize = 0;
     while i < words.len() {
-        ones += u64::count_ones(words[i]) as u64;
+        let bits = known_word(known, all, i);
+        ones += u64::count_ones(words[i] & bits) as u64;
         i += 1;
     }
     ones
@@ -136,15 +162,17 @@ fn answer(
     literals: &[u32],
     row: usize,
     words: &[u64],
+    known: &[u64],
+    all: bool,
 ) -> Evaluated
     requires lengths { ⌜ length (now weights) ≡ length (now literals) ⌝ }
     requires few { ⌜ length (now words) ≤ wordLimit ⌝ }
     requires small { ⌜ sizes (termsOn (now weights) (now literals)) ≤ weightLimit ⌝ }
-    requires covers { ⌜ codesCovered (now words) (now literals) ≡ true ⌝ }
-    ensures { λ r. ⌜ saidEvaluated r ≡ onPlace row (foundBy (readKind kind) (now (words .entry)) (rowOf (readKind kind) bound (termsOn (now (weights .entry)) (now (literals .entry))))) ⌝ }
+    requires covers { ⌜ codesCovered (within (now words)) (now literals) ≡ true ⌝ }
+    ensures { λ r. ⌜ saidEvaluated r ≡ onPlace row (foundBy (readKind kind) (assigned (now (words .entry))) (onesBy all (now (words .entry)) (now (known .entry))) (rowOf (readKind kind) bound (termsOn (now (weights .entry)) (now (literals .entry))))) ⌝ }
 {
     let sum = sum_of(weights, literals, words);
-    let ones = ones_of(words);
+    let ones = ones_of(words, known, all);
     match kind {
         AT_LEAST | AT_MOST | EQUAL => {
             let holds = holds(kind, sum, bound);
@@ -162,14 +190,16 @@ fn evaluate_terms(
     literals: &[u32],
     row: usize,
     words: &[u64],
+    known: &[u64],
+    all: bool,
 ) -> Evaluated
     requires lengths { ⌜ length (now weights) ≡ length (now literals) ⌝ }
     requires few { ⌜ length (now words) ≤ wordLimit ⌝ }
-    ensures { λ r. ⌜ saidEvaluated r ≡ onPlace row (foundOf kind bound (termsOn (now (weights .entry)) (now (literals .entry))) (now (words .entry))) ⌝ }
+    ensures { λ r. ⌜ saidEvaluated r ≡ onPlace row (foundOf kind bound (termsOn (now (weights .entry)) (now (literals .entry))) all (now (words .entry)) (now (known .entry))) ⌝ }
 {
     let indexed = columns::indexed_of(literals);
     let size = columns::sizes_of(weights);
-    let covers = covered(literals, words);
+    let covers = covered(literals, words, known, all);
     if !indexed {
         return refused(11, row);
     }
@@ -179,7 +209,7 @@ fn evaluate_terms(
     if !covers {
         return refused(12, row);
     }
-    answer(kind, bound, weights, literals, row, words)
+    answer(kind, bound, weights, literals, row, words, known, all)
 }
 
 // An entry of the table. A comment, and any kind that the reader does not give, is a "row that no table may hold".
@@ -192,9 +222,11 @@ fn evaluate_entry(
     literals: &[u32],
     row: usize,
     words: &[u64],
+    known: &[u64],
+    all: bool,
 ) -> Evaluated
     requires { ⌜ length (now words) ≤ wordLimit ⌝ }
-    ensures { λ r. ⌜ saidEvaluated r ≡ onPlace row (foundAt (record { kind = kind; first = first; count = count; bound = bound }) (now (weights .entry)) (now (literals .entry)) (now (words .entry))) ⌝ }
+    ensures { λ r. ⌜ saidEvaluated r ≡ onPlace row (foundAt (record { kind = kind; first = first; count = count; bound = bound }) (now (weights .entry)) (now (literals .entry)) all (now (words .entry)) (now (known .entry))) ⌝ }
 {
     match kind {
         AT_LEAST..=OBJECTIVE => {}
@@ -212,10 +244,45 @@ fn evaluate_entry(
         &literals[first..end],
         row,
         words,
+        known,
+        all,
     )
 }
 
 // Row `row` of the table, rows counted from 0. Order: "11 (comments and missing rows too), 8 for absolute weights, 12, then 8 for an objective's value".
+fn evaluate_row(
+    kinds: &[u8],
+    firsts: &[usize],
+    counts: &[usize],
+    bounds: &[i64],
+    weights: &[i64],
+    literals: &[u32],
+    row: usize,
+    words: &[u64],
+    known: &[u64],
+    all: bool,
+) -> Evaluated
+    requires { ⌜ length (now words) ≤ wordLimit ⌝ }
+    ensures { λ r. ⌜ saidEvaluated r ≡ evaluatingOf (table (now (kinds .entry)) (now (firsts .entry)) (now (counts .entry)) (now (bounds .entry)) (now (weights .entry)) (now (literals .entry))) row all (now (words .entry)) (now (known .entry)) ⌝ }
+{
+    if row >= columns::row_room(kinds, firsts, counts, bounds) {
+        return refused(11, row);
+    }
+    evaluate_entry(
+        kinds[row],
+        firsts[row],
+        counts[row],
+        bounds[row],
+        weights,
+        literals,
+        row,
+        words,
+        known,
+        all,
+    )
+}
+
+// A row under words that are all known.
 pub fn evaluate(
     kinds: &[u8],
     firsts: &[usize],
@@ -228,18 +295,47 @@ pub fn evaluate(
 ) -> Evaluated
     ensures { λ r. ⌜ saidEvaluated r ≡ evaluating (table (now (kinds .entry)) (now (firsts .entry)) (now (counts .entry)) (now (bounds .entry)) (now (weights .entry)) (now (literals .entry))) row (now (words .entry)) ⌝ }
 {
-    if row >= columns::row_room(kinds, firsts, counts, bounds) {
-        return refused(11, row);
-    }
     let looked = columns::lesser(words.len(), WORD_LIMIT);
-    evaluate_entry(
-        kinds[row],
-        firsts[row],
-        counts[row],
-        bounds[row],
+    evaluate_row(
+        kinds,
+        firsts,
+        counts,
+        bounds,
         weights,
         literals,
         row,
         &words[..looked],
+        words,
+        true,
+    )
+}
+
+// A row under values of which some are known: a variable beyond the shorter row, or not known, is 12.
+pub fn evaluate_known(
+    kinds: &[u8],
+    firsts: &[usize],
+    counts: &[usize],
+    bounds: &[i64],
+    weights: &[i64],
+    literals: &[u32],
+    row: usize,
+    values: &[u64],
+    known: &[u64],
+) -> Evaluated
+    ensures { λ r. ⌜ saidEvaluated r ≡ evaluatingKnown (table (now (kinds .entry)) (now (firsts .entry)) (now (counts .entry)) (now (bounds .entry)) (now (weights .entry)) (now (literals .entry))) row (now (values .entry)) (now (known .entry)) ⌝ }
+{
+    let looked = columns::lesser(values.len(), WORD_LIMIT);
+    let asked = columns::lesser(known.len(), WORD_LIMIT);
+    evaluate_row(
+        kinds,
+        firsts,
+        counts,
+        bounds,
+        weights,
+        literals,
+        row,
+        &values[..looked],
+        &known[..asked],
+        false,
     )
 }

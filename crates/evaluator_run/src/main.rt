@@ -1,5 +1,5 @@
 // Runs rows through the evaluator and writes a line for each case: what the row is, and what is answered. x1 is the variable of index 0, M is
-// 9223372036854775807, and the words of the assignment are in decimal. The file `stdout` was made by another program, from the rules of 01.
+// 9223372036854775807, and the words of the assignment, and those that say which variables are known, are in decimal. The file `stdout` was made by another program, from the rules of 01.
 use evaluator::Evaluated;
 use libc::STDOUT_FILENO;
 use numbers::Put;
@@ -258,6 +258,187 @@ fn unevens() {
     uneven(b"row 2, outside the shortest column", 2);
 }
 
+// The only row of a table, under values of which some are known.
+fn part(
+    name: &[u8],
+    kind: u8,
+    bound: i64,
+    weights: &[i64],
+    literals: &[u32],
+    values: &[u64],
+    known: &[u64],
+) {
+    let kinds: [u8; 1] = [kind];
+    let firsts: [usize; 1] = [0];
+    let counts: [usize; 1] = [weights.len()];
+    let bounds: [i64; 1] = [bound];
+    write(name);
+    write(b": ");
+    show(evaluator::evaluate_known(
+        &kinds,
+        &firsts,
+        &counts,
+        &bounds,
+        weights,
+        literals,
+        0,
+        values,
+        known,
+    ));
+}
+
+// The rows of `shared` under x1 and x3 where x1 and x2 are known.
+fn shared_part(name: &[u8], row: usize) {
+    let kinds: [u8; 9] = [0, 1, 4, 3, 1, 3, 2, 2, 1];
+    let firsts: [usize; 9] = [0, 0, 1, 3, 2, 3, 4, 5, 18446744073709551615];
+    let counts: [usize; 9] = [3, 2, 2, 1, 2, 2, 0, 0, 18446744073709551615];
+    let bounds: [i64; 9] = [0, 5, 7, 0, 0, 0, 0, 0, 0];
+    let weights: [i64; 4] = [5, -3, 2, M];
+    let literals: [u32; 4] = [0, 2, 5, 128];
+    write(name);
+    write(b": ");
+    show(evaluator::evaluate_known(
+        &kinds,
+        &firsts,
+        &counts,
+        &bounds,
+        &weights,
+        &literals,
+        row,
+        &[5],
+        &[3],
+    ));
+}
+
+// 3 x1 -2 ~x2 at least 1, under a word of values and one of known variables.
+fn pair_part(name: &[u8], values: u64, known: u64) {
+    part(name, 1, 1, &[3, -2], &[0, 3], &[values], &[known]);
+}
+
+fn pair_parts() {
+    pair_part(b"3 x1 -2 ~x2 at least 1, both known and true", 3, 3);
+    pair_part(b"3 x1 -2 ~x2 at least 1, both known and false", 0, 3);
+    pair_part(
+        b"3 x1 -2 ~x2 at least 1, all but x2 known, x2 false",
+        1,
+        ALL - 2,
+    );
+    pair_part(
+        b"3 x1 -2 ~x2 at least 1, all but x2 known, x2 true",
+        3,
+        ALL - 2,
+    );
+    pair_part(b"3 x1 -2 ~x2 at least 1, none known", 3, 0);
+    pair_part(
+        b"3 x1 -2 ~x2 at least 1, x1 and x2 known of all true",
+        ALL,
+        3,
+    );
+    pair_part(b"3 x1 -2 ~x2 at least 1, all known and true", ALL, ALL);
+}
+
+// 1 x64 and 2 on another literal, at least 2, under rows of words.
+fn across_part(name: &[u8], code: u32, values: &[u64], known: &[u64]) {
+    part(name, 1, 2, &[1, 2], &[126, code], values, known);
+}
+
+fn word_parts() {
+    across_part(
+        b"1 x64 2 x65, all of two words known",
+        128,
+        &[ALL, ALL],
+        &[ALL, ALL],
+    );
+    across_part(
+        b"1 x64 2 x65, x64 and x65 known",
+        128,
+        &[ALL, ALL],
+        &[9223372036854775808, 1],
+    );
+    across_part(
+        b"1 x64 2 ~x65, x64 and x66 known",
+        129,
+        &[ALL, ALL],
+        &[9223372036854775808, 2],
+    );
+    across_part(b"1 x64 2 x65, one known word", 128, &[ALL, ALL], &[ALL]);
+    across_part(b"1 x64 2 x63, one known word", 124, &[ALL, ALL], &[ALL]);
+    across_part(b"1 x64 2 x65, one word of values", 128, &[ALL], &[ALL, ALL]);
+    across_part(b"1 x64 2 x63, one word of values", 124, &[ALL], &[ALL, ALL]);
+    across_part(b"1 x64 2 x63, no known words", 124, &[ALL], &[]);
+    across_part(b"1 x64 2 x63, no words of values", 124, &[], &[ALL]);
+}
+
+// One term under a word of values and one of known variables.
+fn single_part(name: &[u8], kind: u8, bound: i64, weight: i64, code: u32, values: u64, known: u64) {
+    part(name, kind, bound, &[weight], &[code], &[values], &[known]);
+}
+
+fn objective_parts() {
+    single_part(
+        b"objective 4 x3 with offset 10, x3 known",
+        4,
+        10,
+        4,
+        4,
+        6,
+        4,
+    );
+    single_part(
+        b"objective 4 x3 with offset 10, x3 unknown",
+        4,
+        10,
+        4,
+        4,
+        6,
+        2,
+    );
+    single_part(b"objective M x1 with offset 1, x1 known", 4, 1, M, 0, 1, 1);
+    single_part(
+        b"objective M x1 with offset 1, x1 unknown",
+        4,
+        1,
+        M,
+        0,
+        1,
+        0,
+    );
+}
+
+fn other_parts() {
+    single_part(b"the least on x1, x1 unknown", 1, 0, LEAST, 0, 0, 0);
+    single_part(b"code 2147483648, all known", 1, 0, 1, 2147483648, 1, ALL);
+    single_part(b"kind 5, a clause, all known", 5, 1, 1, 0, 1, ALL);
+    part(
+        b"no terms at least 0, x1 known of x1 and x2",
+        1,
+        0,
+        &[],
+        &[],
+        &[3],
+        &[1],
+    );
+    part(
+        b"no terms with offset -7, no words at all",
+        4,
+        -7,
+        &[],
+        &[],
+        &[],
+        &[],
+    );
+}
+
+fn table_parts() {
+    shared_part(b"row 0, a comment, x1 and x2 known", 0);
+    shared_part(b"row 1, 5 x1 -3 x2 at least 5, x1 and x2 known", 1);
+    shared_part(b"row 2, objective -3 x2 2 ~x3, x3 unknown", 2);
+    shared_part(b"row 3, M x65 equal 0, x65 beyond", 3);
+    shared_part(b"row 4, 2 ~x3 M x65 at least 0, x3 unknown", 4);
+    shared_part(b"row 6, no terms from the end, x1 and x2 known", 6);
+    shared_part(b"row 9, missing, x1 and x2 known", 9);
+}
+
 fn main() {
     pairs();
     repeats();
@@ -270,4 +451,9 @@ fn main() {
     wordless();
     tables();
     unevens();
+    pair_parts();
+    word_parts();
+    objective_parts();
+    other_parts();
+    table_parts();
 }

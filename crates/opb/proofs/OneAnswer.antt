@@ -6,6 +6,8 @@ use Rattle.opb.proofs.reading.opb_count.Reads as opb-count
 use Rattle.opb.proofs.reading.opb_read.Reads as opb-read
 use Rattle.opb.proofs.reading.opb_normalise.Reads as opb-normalise
 use Rattle.opb.proofs.evaluating.opb_evaluate.Reads as opb-evaluate
+use Rattle.opb.proofs.evaluating.opb_evaluate_known.Reads as opb-evaluate-known
+use Rattle.opb.proofs.valuing.opb_values.Reads as opb-values
 use Rattle.opb.proofs.writing.opb_write.Reads as opb-write
 use Rattle.opb.proofs.writing.opb_list.Reads as opb-list
 
@@ -30,6 +32,14 @@ opb-normalise-one κs a r r' s s' p q = (p .answer ∙ sym (q .answer), p .after
 
 pub opb-evaluate-one : (κs : _) (a : _) (r r' : _) (s s' : _) → opb-evaluate.Post κs a r s → opb-evaluate.Post κs a r' s' → r ≡ r'
 opb-evaluate-one κs a r r' s s' p q = p ∙ sym q
+
+pub opb-evaluate-known-one : (κs : _) (a : _) (r r' : _) (s s' : _) → opb-evaluate-known.Post κs a r s → opb-evaluate-known.Post κs a r' s' → r ≡ r'
+opb-evaluate-known-one κs a r r' s s' p q = p ∙ sym q
+
+-- the values and the known words
+pub opb-values-one : (κs : _) (a : _) (r r' : _) (s s' : _) → opb-values.Post κs a r s → opb-values.Post κs a r' s'
+    → (r ≡ r') × (now (s .1 .1 .0) ≡ now (s' .1 .1 .0)) × (now (s .1 .1 .1 .0) ≡ now (s' .1 .1 .1 .0))
+opb-values-one κs a r r' s s' p q = (p .answer ∙ sym (q .answer), p .values ∙ sym (q .values), p .known ∙ sym (q .known))
 
 -- the output
 pub opb-write-one : (κs : _) (a : _) (r r' : _) (s s' : _) → opb-write.Post κs a r s → opb-write.Post κs a r' s'

@@ -1,17 +1,17 @@
--- Every refusal has one of 01's numbers, 1 to 15 ("What each number says"): reading, normalising, evaluating, writing, listing, from the smallest step up.
-use Prim.Native.Nat.{ℕ, zero, suc, pred, _+_}
+-- Every refusal has one of 01's numbers, 1 to 15 ("What each number says"), or of 02's, 20 to 22 (A1): reading, normalising, evaluating, value lines, writing, listing, from the smallest step up.
+use Prim.Native.Nat.{ℕ, zero, suc, pred, _+_, min}
 use mathlib.Core.Path.{_≡_, refl, _∙_}
-use mathlib.Core.Bool.{Bool, true, false, cond, _&&_}
-use mathlib.Core.List.{List, [], _∷_}
+use mathlib.Core.Bool.{Bool, true, false, cond, _&&_, _||_}
+use mathlib.Core.List.{List, [], _∷_, _++_}
 use lib.Dec.{leb}
 use lib.IntN.{ℤ}
-use lib.ListN.{take, drop}
+use lib.ListN.{length, take, drop}
 use Rattle.definitions.specs.Lists.{joined}
 use Rattle.definitions.specs.Limits.{wordLimit}
 use Rattle.definitions.specs.Refusal.{refusal, Checked, refuse, accept}
 use Rattle.definitions.specs.Reader.{Got, none, got, Reader, more, thenAt, chain, done, fail}
 use Rattle.definitions.specs.Number.{ended, number}
-use Rattle.definitions.specs.Literal.{index}
+use Rattle.definitions.specs.Literal.{codeOf, index}
 use Rattle.definitions.specs.Walk.{Step, stop, bad, item, Walked, broken, items, before, walk, all, anywhere}
 use Rattle.definitions.specs.Row.{Term, Kind, atLeast, atMost, equal, objective, Row, Line, comment, row}
 use Rattle.definitions.specs.Bytes.{blanks, lineEnding, begins, classOf}
@@ -19,18 +19,22 @@ use Rattle.definitions.specs.Text as text
 use Rattle.definitions.specs.Table.{Table, Outcome, refused, accepted, fitted, Entry, entries, Sort, remark, clause, unknown, weighted, cardinality, sortOf, onRow, rowByRow, andThen, lineBy, lineIn}
 use Rattle.definitions.specs.File.{linesOf, statements, file, reading}
 use Rattle.definitions.specs.Normal.{normalLine, normalIn, normalising}
-use Rattle.definitions.specs.Evaluate.{foundBy, found, foundIn, frontBy, onPlace, evaluating}
+use Rattle.definitions.specs.Meaning.{Assignment, assigned, onesOf, isKnown}
+use Rattle.definitions.specs.Evaluate.{foundBy, found, foundIn, frontBy, onPlace, evaluatingBy, within, evaluating, knownOnes, evaluatingKnown}
 use Rattle.definitions.specs.Write.{Item, say, line, itemText, itemBy, itemIn, rowAllowed, allowed, writtenIn, fittedText, textOf, writing}
 use Rattle.definitions.specs.House.{listing, listedLine, listedEntry, listedIn, listingTable}
+use Rattle.definitions.specs.Values as values
 use Rattle.definitions.specs.declared.Options.{Options}
 use Rattle.definitions.specs.declared.Mode.{Mode}
 use Rattle.definitions.specs.declared.Beginning.{Beginning}
 use Rattle.definitions.specs.declared.Beginning.the-variants.{Comment, Objective, Constraint, Nothing}
+use Rattle.definitions.specs.declared.Form.{Form}
+use Rattle.definitions.specs.declared.Form.the-variants.{SignedNumbers, ZerosAndOnes, XTokens}
 
 -- ---- whether a refusal, if it is one, has one of the numbers
 
 abbrev pub isNumber : ℕ → Bool
-isNumber n = leb 1 n && leb n 15
+isNumber n = leb 1 n && (leb n 15 || (leb 20 n && leb n 22))
 
 unfoldable pub inChecked : {A : Type 0} → Checked A → Bool
 inChecked (refuse n) = isNumber n
@@ -346,31 +350,123 @@ normalising-in t o = fitted-in o (rowByRow (normalIn t) 0 (entries t)) (rows-in 
 
 -- ---- evaluating
 
-found-by-in : (k : Kind) (ws : List ℕ) (r : Row) → inChecked (foundBy k ws r) ≡ true
-unfolding inChecked
-found-by-in atLeast ws r = refl
-found-by-in atMost ws r = refl
-found-by-in equal ws r = refl
-found-by-in objective ws r = simp (checked-cond, both)
+module _ (has : ℕ → Bool) (a : Assignment) (ones : ℕ) where
+  found-by-in : (k : Kind) (r : Row) → inChecked (foundBy k a ones r) ≡ true
+  unfolding inChecked
+  found-by-in atLeast r = refl
+  found-by-in atMost r = refl
+  found-by-in equal r = refl
+  found-by-in objective r = simp (checked-cond, both)
 
-found-in : (ws : List ℕ) (l : Line) → inChecked (foundIn ws l) ≡ true
-unfolding found inChecked
-found-in ws (comment f n b) = refl
-found-in ws (row r) = simp (checked-cond, found-by-in, both)
+  found-in : (l : Line) → inChecked (foundIn has a ones l) ≡ true
+  unfolding found inChecked
+  found-in (comment f n b) = refl
+  found-in (row r) = simp (checked-cond, found-by-in, both)
 
-front-in : (es : List Entry) (t : Table) (ws : List ℕ) → inChecked (frontBy es t ws) ≡ true
-unfolding inChecked
-front-in [] t ws = refl
-front-in (e ∷ es) t ws = then-checked-in (foundIn ws) (found-in ws) (lineIn t e) (line-in t e)
+  front-in : (es : List Entry) (t : Table) → inChecked (frontBy es t (foundIn has a ones)) ≡ true
+  unfolding inChecked
+  front-in [] t = refl
+  front-in (e ∷ es) t = then-checked-in (foundIn has a ones) found-in (lineIn t e) (line-in t e)
 
 place-in : {A : Type 0} (i : ℕ) (c : Checked A) → inOutcome (onPlace i c) ≡ inChecked c
 unfolding inOutcome inChecked
 place-in i (refuse n) = refl
 place-in i (accept a) = refl
 
+evaluating-by-in : (has : ℕ → Bool) (a : Assignment) (ones : ℕ) (t : Table) (i : ℕ) → inOutcome (evaluatingBy has a ones t i) ≡ true
+unfolding evaluatingBy
+evaluating-by-in has a ones t i = let es = drop i (entries t) in place-in i (frontBy es t (foundIn has a ones)) ∙ front-in has a ones es t
+
 pub evaluating-in : (t : Table) (i : ℕ) (ws : List ℕ) → inOutcome (evaluating t i ws) ≡ true
 unfolding evaluating
-evaluating-in t i ws = let es = drop i (entries t) in place-in i (frontBy es t (take wordLimit ws)) ∙ front-in es t (take wordLimit ws)
+evaluating-in t i ws = let w = take wordLimit ws in evaluating-by-in (within w) (assigned w) (onesOf w) t i
+
+pub evaluating-known-in : (t : Table) (i : ℕ) (ws ks : List ℕ) → inOutcome (evaluatingKnown t i ws ks) ≡ true
+unfolding evaluatingKnown
+evaluating-known-in t i ws ks =
+    let w = take wordLimit ws in
+    let k = take wordLimit ks in
+    evaluating-by-in (isKnown w k) (assigned w) (knownOnes w k) t i
+
+-- ---- value lines
+
+-- 21
+whole-in : (s : List ℕ) → inChecked (values.wholeNumber s) ≡ true
+unfolding values.wholeNumber inChecked
+whole-in s = simp (checked-cond, both)
+
+-- 5
+literal-for-in : (negative : Bool) (n : ℕ) → inChecked (values.literalFor negative n) ≡ true
+unfolding inChecked
+literal-for-in negative n = then-checked-in (λ v. accept (codeOf negative v ∷ [])) (λ v. refl) (index 1 n) (index-in 1 n)
+
+signed-for-in : (negative : Bool) (n : ℕ) → inChecked (values.signedFor negative n) ≡ true
+unfolding inChecked
+signed-for-in negative n = simp (checked-cond, literal-for-in negative n, both)
+
+signed-whole-in : (negative : Bool) (s : List ℕ) → inChecked (andThen (values.wholeNumber s) (values.signedFor negative)) ≡ true
+signed-whole-in negative s = then-checked-in (values.signedFor negative) (signed-for-in negative) (values.wholeNumber s) (whole-in s)
+
+signed-token-in : (s : List ℕ) → inChecked (values.signedToken s) ≡ true
+unfolding values.signedToken inChecked
+signed-token-in [] = refl
+signed-token-in (b ∷ s) = simp (checked-cond, signed-whole-in, both)
+
+named-in : (negative : Bool) (s : List ℕ) → inChecked (values.namedVariable negative s) ≡ true
+unfolding values.namedVariable inChecked
+named-in negative [] = refl
+named-in negative (b ∷ s) = simp (checked-cond, whole-literal-in, both)
+  where
+    whole-literal-in : inChecked (andThen (values.wholeNumber s) (values.literalFor negative)) ≡ true
+    whole-literal-in = then-checked-in (values.literalFor negative) (literal-for-in negative) (values.wholeNumber s) (whole-in s)
+
+x-token-in : (s : List ℕ) → inChecked (values.xToken s) ≡ true
+unfolding values.xToken inChecked
+x-token-in [] = refl
+x-token-in (b ∷ s) = simp (checked-cond, named-in, both)
+
+bits-in : (n : ℕ) (s : List ℕ) → inChecked (values.bitsToken n s) ≡ true
+unfolding values.bitsToken inChecked
+bits-in n s = simp (checked-cond, both)
+
+literals-in : (f : Form) (n : ℕ) (s : List ℕ) → inChecked (values.literalsOf f n s) ≡ true
+literals-in SignedNumbers n s = signed-token-in s
+literals-in ZerosAndOnes n s = bits-in n s
+literals-in XTokens n s = x-token-in s
+
+-- 20, 22
+module _ (f : Form) (n : ℕ) (ws ks : List ℕ) where
+  hear-in : (heard : List ℕ) (is : List values.Item) → inOutcome (values.hear f n ws ks heard is) ≡ true
+  unfolding values.hear inOutcome inChecked
+  hear-in heard [] = refl
+  hear-in heard (values.untagged p ∷ is) = refl
+  hear-in heard (values.token p s ∷ is) = by (values.literalsOf f n s) (literals-in f n s) (λ more. hear-in more is)
+    where
+      free : (cs : List ℕ) (b : Bool) → ((more : List ℕ) → inOutcome (values.hear f n ws ks more is) ≡ true)
+          → inOutcome {A = List ℕ} (elim b [ true ↦ refused (refusal 22 p) | false ↦ values.hear f n ws ks (heard ++ cs) is ]) ≡ true
+      free cs true rest = refl
+      free cs false rest = rest (heard ++ cs)
+
+      by : (x : Checked (List ℕ)) → inChecked x ≡ true → ((more : List ℕ) → inOutcome (values.hear f n ws ks more is) ≡ true)
+          → inOutcome {A = List ℕ} (elim x [
+            | refuse e ↦ refused (refusal e p)
+            | accept cs ↦ elim (values.anyConflict ws ks heard cs) [ true ↦ refused (refusal 22 p) | false ↦ values.hear f n ws ks (heard ++ cs) is ]
+          ]) ≡ true
+      by (refuse e) h rest = h
+      by (accept cs) h rest = free cs (values.anyConflict ws ks heard cs) rest
+
+-- 12
+held-in : (n room : ℕ) (x : Outcome (List ℕ)) → inOutcome x ≡ true → inOutcome (values.held n room x) ≡ true
+unfolding values.held inOutcome
+held-in n room (refused r) h = h
+held-in n room (accepted cs) h = simp (outcome-cond, both)
+
+pub valuing-in : (s : List ℕ) (n : ℕ) (ws ks : List ℕ) → inOutcome (values.valuing s n ws ks) ≡ true
+unfolding values.valuing
+valuing-in s n ws ks =
+    let f = values.formOf s in
+    let is = values.itemsOf s in
+    held-in n (min (length ws) (length ks)) (values.hear f n ws ks [] is) (hear-in f n ws ks [] is)
 
 -- ---- writing, listing
 

@@ -16,10 +16,14 @@ use Rattle.writer.specs.declared.Written.{Written}
 use Rattle.house.specs.Said.{saidListed}
 use Rattle.house.specs.Lists.{Lists}
 use Rattle.house.specs.declared.Listed.{Listed}
-use Rattle.opb.specs.Answers.{tableAnswer, lengthAnswer}
-use Rattle.opb.specs.Calls.{modeAt, countAnswer, ReadsFile, NormalisesTable, WritesLines, ListsTable}
+use Rattle.values.specs.Said.{saidRead}
+use Rattle.values.specs.Reads.{ReadsValues}
+use Rattle.values.specs.declared.ValuesRead.{ValuesRead}
+use Rattle.opb.specs.Answers.{tableAnswer, lengthAnswer, keptAnswer}
+use Rattle.opb.specs.Calls.{modeAt, countAnswer, ReadsFile, NormalisesTable, ReadsBlock, WritesLines, ListsTable}
 use Rattle.opb.specs.declared.answers.OpbTable.{OpbTable}
 use Rattle.opb.specs.declared.answers.OpbText.{OpbText}
+use Rattle.opb.specs.declared.answers.OpbLength.{OpbLength}
 
 -- ---- counting
 
@@ -34,6 +38,13 @@ read-told first s t t′ r a b reads q e = record { answer = e ∙ ap tableAnswe
 pub normal-told : (t o o′ : Table) (r : OpbTable) (a b : normaliser.Answer) → Normalises t o a o′ → a ≡ b → r ≡ tableAnswer (normal.saidAnswer b) → NormalisesTable t o r o′
 normal-told t o o′ r a b normalises q e =
     record { answer = e ∙ ap tableAnswer (sym (ap normal.saidAnswer q) ∙ normalises .answer); after = normalises .after }
+
+-- ---- value lines
+
+pub values-told : (s : List ℕ) (n : ℕ) (ws ks ws′ ks′ : List ℕ) (r : OpbLength) (a b : ValuesRead) → ReadsValues s n ws ks a ws′ ks′ → a ≡ b → r ≡ keptAnswer (saidRead b)
+    → ReadsBlock s n ws ks r ws′ ks′
+values-told s n ws ks ws′ ks′ r a b reads q e =
+    record { answer = e ∙ ap keptAnswer (sym (ap saidRead q) ∙ reads .answer); values = reads .values; known = reads .known }
 
 -- ---- writing, listing
 

@@ -10,15 +10,17 @@ use Rattle.definitions.specs.Row.{Line}
 use Rattle.definitions.specs.Table.{Table, Outcome, refused, accepted, counted}
 use Rattle.definitions.specs.File.{firstAt, file, reading}
 use Rattle.definitions.specs.Normal.{normalising}
-use Rattle.definitions.specs.Evaluate.{Evaluated, constraint, goal, evaluating}
+use Rattle.definitions.specs.Evaluate.{Evaluated, constraint, goal, evaluating, evaluatingKnown}
 use Rattle.definitions.specs.Write.{writing}
 use Rattle.definitions.specs.House.{listingTable}
-use Rattle.opb.specs.Answers.{tableAnswer, textAnswer, valueAnswer}
+use Rattle.definitions.specs.Values.{valuing, newLength}
+use Rattle.opb.specs.Answers.{tableAnswer, textAnswer, keptAnswer, valueAnswer}
 use Rattle.opb.specs.Accepts.{Accepted, Tells}
-use Rattle.opb.specs.Calls.{modeAt, countAnswer, ReadsFile, NormalisesTable, evaluateAnswer, WritesLines, ListsTable}
+use Rattle.opb.specs.Calls.{modeAt, countAnswer, ReadsFile, NormalisesTable, evaluateAnswer, evaluateKnownAnswer, ReadsBlock, WritesLines, ListsTable}
 use Rattle.opb.specs.declared.answers.OpbTable.{OpbTable}
 use Rattle.opb.specs.declared.answers.OpbText.{OpbText}
-use Rattle.opb.proofs.Refusals.{inOutcome, file-in, reading-in, normalising-in, evaluating-in, writing-in, listing-in}
+use Rattle.opb.specs.declared.answers.OpbLength.{OpbLength}
+use Rattle.opb.proofs.Refusals.{inOutcome, file-in, reading-in, normalising-in, evaluating-in, evaluating-known-in, valuing-in, writing-in, listing-in}
 
 -- ---- what an answer's number tells of the outcome
 
@@ -43,6 +45,10 @@ text-tells : (x : Outcome (List ℕ)) → inOutcome x ≡ true → Tells (textAn
 text-tells (refused r) h = refused-tells r h
 text-tells (accepted s) h = accepted-tells s
 
+kept-tells : (n : ℕ) (x : Outcome (List ℕ)) → inOutcome x ≡ true → Tells (keptAnswer (newLength n x) .refusal) x
+kept-tells n (refused r) h = refused-tells r h
+kept-tells n (accepted cs) h = accepted-tells cs
+
 value-tells : (x : Outcome Evaluated) → inOutcome x ≡ true → Tells (valueAnswer x .refusal) x
 value-tells (refused r) h = refused-tells r h
 value-tells (accepted (constraint sum holds ones)) h = accepted-tells (constraint sum holds ones)
@@ -61,6 +67,12 @@ normalise-tells t o r o′ c = rw (c .answer) (table-tells (normalising t o) (no
 
 pub evaluate-tells : (t : Table) (row : ℕ) (words : List ℕ) → Tells (evaluateAnswer t row words .refusal) (evaluating t row words)
 evaluate-tells t row words = value-tells (evaluating t row words) (evaluating-in t row words)
+
+pub evaluate-known-tells : (t : Table) (row : ℕ) (values known : List ℕ) → Tells (evaluateKnownAnswer t row values known .refusal) (evaluatingKnown t row values known)
+evaluate-known-tells t row values known = value-tells (evaluatingKnown t row values known) (evaluating-known-in t row values known)
+
+pub values-tells : (s : List ℕ) (n : ℕ) (ws ks : List ℕ) (r : OpbLength) (ws′ ks′ : List ℕ) → ReadsBlock s n ws ks r ws′ ks′ → Tells (r .refusal) (valuing s n ws ks)
+values-tells s n ws ks r ws′ ks′ c = rw (c .answer) (kept-tells n (valuing s n ws ks) (valuing-in s n ws ks))
 
 pub write-tells : (first plain : ℕ) (t : Table) (text o : List ℕ) (r : OpbText) (o′ : List ℕ) → WritesLines first plain t text o r o′
     → Tells (r .refusal) (writing (modeAt first plain) t text (length o))

@@ -1,4 +1,4 @@
--- What each answer of src/answers.rt is, for a refusal and for what a call found. `refusal` is 0 where the call accepted, else 01's number, with its place; then every other number is 0. No
+-- What each answer of src/answers.rt is, for a refusal and for what a call found. `refusal` is 0 where the call accepted, else the refusal's number, with its place; then every other number is 0. No
 -- refusal has the number 0 (proofs/Refusals.antt).
 use Prim.Native.Nat.{ℕ}
 use mathlib.Core.Bool.{Bool, cond}
@@ -9,6 +9,7 @@ use Rattle.definitions.specs.Write.{lengthOf}
 use Rattle.definitions.specs.Evaluate.{Evaluated, constraint, goal}
 use Rattle.opb.specs.declared.answers.OpbTable.{OpbTable}
 use Rattle.opb.specs.declared.answers.OpbText.{OpbText}
+use Rattle.opb.specs.declared.answers.OpbLength.{OpbLength}
 use Rattle.opb.specs.declared.answers.OpbValue.{OpbValue}
 
 -- ---- of a table: its rows and terms
@@ -25,6 +26,12 @@ lengthAnswer (accepted n) = record { refusal = 0; place = 0; length = n }
 
 abbrev pub textAnswer : Outcome (List ℕ) → OpbText
 textAnswer x = lengthAnswer (lengthOf x)
+
+-- ---- of an assignment: its length
+
+abbrev pub keptAnswer : Outcome ℕ → OpbLength
+keptAnswer (refused r) = record { refusal = r .number; place = r .place; length = 0 }
+keptAnswer (accepted n) = record { refusal = 0; place = 0; length = n }
 
 -- ---- of a row under an assignment
 

@@ -8,13 +8,15 @@ use lib.ListN.{length}
 use Rattle.definitions.specs.Table.{Table, counted, after}
 use Rattle.definitions.specs.File.{firstAt, file, reading}
 use Rattle.definitions.specs.Normal.{normalising}
-use Rattle.definitions.specs.Evaluate.{evaluating}
+use Rattle.definitions.specs.Evaluate.{evaluating, evaluatingKnown}
 use Rattle.definitions.specs.Write.{writing, outputAfter}
 use Rattle.definitions.specs.House.{listingTable}
+use Rattle.definitions.specs.Values.{valuing, newLength, valuesAfter, knownAfter}
 use Rattle.definitions.specs.declared.Mode.{Mode}
-use Rattle.opb.specs.Answers.{tableAnswer, textAnswer, valueAnswer}
+use Rattle.opb.specs.Answers.{tableAnswer, textAnswer, keptAnswer, valueAnswer}
 use Rattle.opb.specs.declared.answers.OpbTable.{OpbTable}
 use Rattle.opb.specs.declared.answers.OpbText.{OpbText}
+use Rattle.opb.specs.declared.answers.OpbLength.{OpbLength}
 use Rattle.opb.specs.declared.answers.OpbValue.{OpbValue}
 
 -- ---- modes as C lends them
@@ -42,6 +44,16 @@ pub record NormalisesTable (t o : Table) (r : OpbTable) (o′ : Table) : Type 0 
 -- a row of the table t under the assignment that the words are
 abbrev pub evaluateAnswer : Table → ℕ → List ℕ → OpbValue
 evaluateAnswer t row words = valueAnswer (evaluating t row words)
+
+-- the same where a second row of words says which variables are known
+abbrev pub evaluateKnownAnswer : Table → ℕ → List ℕ → List ℕ → OpbValue
+evaluateKnownAnswer t row values known = valueAnswer (evaluatingKnown t row values known)
+
+-- the block s of value lines on top of the length n, the values ws and the known words ks, which are ws′ and ks′ after the call
+pub record ReadsBlock (s : List ℕ) (n : ℕ) (ws ks : List ℕ) (r : OpbLength) (ws′ ks′ : List ℕ) : Type 0 where
+  pub answer : r ≡ keptAnswer (newLength n (valuing s n ws ks))
+  pub values : ws′ ≡ valuesAfter (valuing s n ws ks) ws
+  pub known : ks′ ≡ knownAfter (valuing s n ws ks) ks
 
 -- the rows of the table t, with the comments' text, as the lines of a file into the output o, which is o′ after the call
 pub record WritesLines (first plain : ℕ) (t : Table) (text o : List ℕ) (r : OpbText) (o′ : List ℕ) : Type 0 where

@@ -1,9 +1,9 @@
-// What the calls answer, by value, so that a refused call has nothing to write. `refusal` is 0 exactly where the call accepted, else 01's number; then `place` is its place and every other
+// What the calls answer, by value, so that a refused call has nothing to write. `refusal` is 0 exactly where the call accepted, else the refusal's number; then `place` is its place and every other
 // number is 0. specs/Answers.antt has the answer for each outcome. Assumes nothing.
 ghost use mathlib.Core.Path.{_≡_};
 ghost use Rattle.definitions.specs.Refusal.{refusal};
 ghost use Rattle.definitions.specs.Table.{refused, accepted, totalsOf};
-ghost use Rattle.opb.specs.Answers.{tableAnswer, lengthAnswer};
+ghost use Rattle.opb.specs.Answers.{tableAnswer, lengthAnswer, keptAnswer};
 
 // Of a table: how many rows and terms were counted or filled.
 #[repr(C)]
@@ -17,6 +17,14 @@ pub struct OpbTable {
 // Of a text: how many bytes of the output it takes.
 #[repr(C)]
 pub struct OpbText {
+    pub refusal: u8,
+    pub place: u64,
+    pub length: u64,
+}
+
+// Of an assignment: its length, which the caller keeps.
+#[repr(C)]
+pub struct OpbLength {
     pub refusal: u8,
     pub place: u64,
     pub length: u64,
@@ -71,5 +79,25 @@ pub(crate) fn text_of(length: usize) -> OpbText
         refusal: 0,
         place: 0,
         length: length as u64,
+    }
+}
+
+pub(crate) fn refused_length(number: u8, place: u64) -> OpbLength
+    ensures { λ r. ⌜ r ≡ keptAnswer (refused (refusal number place)) ⌝ }
+{
+    OpbLength {
+        refusal: number,
+        place,
+        length: 0,
+    }
+}
+
+pub(crate) fn length_of(length: u64) -> OpbLength
+    ensures { λ r. ⌜ r ≡ keptAnswer (accepted length) ⌝ }
+{
+    OpbLength {
+        refusal: 0,
+        place: 0,
+        length,
     }
 }

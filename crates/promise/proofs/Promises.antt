@@ -2,14 +2,19 @@
 use Prim.Native.Nat.{ℕ, _≤_, _<_}
 use mathlib.Core.Path.{_≡_, sym, _∙_}
 use mathlib.Core.Logic.{_⊎_}
+use mathlib.Core.Bool.{Bool, true}
 use mathlib.Core.List.{List}
 use denote.Ref.{now}
+use lib.IntN.{ℤ}
 use lib.ListN.{length}
 use Rattle.definitions.specs.Limits.{fileLimit}
 use Rattle.definitions.specs.Refusal.{Refusal, refusal}
 use Rattle.definitions.specs.Row.{Line}
 use Rattle.definitions.specs.Table.{Table, refused, accepted}
 use Rattle.definitions.specs.File.{file}
+use Rattle.definitions.specs.Meaning.{Assignment, assigned, isKnown}
+use Rattle.definitions.specs.Values.{formOf, valuing, newLength, valuesAfter, knownAfter}
+use Rattle.definitions.specs.declared.Form.the-variants.{SignedNumbers, XTokens}
 use Rattle.definitions.specs.declared.Options.{Options}
 use Rattle.definitions.specs.declared.Mode.{Mode}
 use Rattle.reader.specs.Reads.{Reads}
@@ -19,6 +24,10 @@ use Rattle.writer.proofs.write_opb_lines.Reads as write-opb-lines
 use Rattle.normaliser.specs.Normalises.{Normalises}
 use Rattle.normaliser.proofs.normalise.Reads as normalise
 use Rattle.evaluator.proofs.evaluate.Reads as evaluate
+use Rattle.evaluator.proofs.evaluate_known.Reads as evaluate-known
+use Rattle.evaluator.proofs.Meant.{looked}
+use Rattle.values.specs.Reads.{ReadsValues}
+use Rattle.values.proofs.read_values.Reads as read-values
 use Rattle.promise.proofs.Lent.{columns}
 
 -- ---- What the code promises. `Post` is the contract that the prover makes of the source, over what a call is lent (a), its answer (r) and what it leaves (s); the check of a crate proves that its code meets it.
@@ -40,6 +49,16 @@ normalising-as-defined κs a r s p = p
 pub evaluating-as-defined : (κs : _) (a : _) (r : _) (s : _) → evaluate.Post κs a r s → Rattle.evaluator.specs.Said.saidEvaluated r ≡ Rattle.definitions.specs.Evaluate.evaluating (columns a) (a .1 .1 .1 .1 .1 .1 .0) (now (a .1 .1 .1 .1 .1 .1 .1 .0))
 evaluating-as-defined κs a r s p = p
 
+-- The same where a second row says which variables are known: those of `evaluatingKnown`. A variable that is not known is refused, never taken as false.
+pub evaluating-known-as-defined : (κs : _) (a : _) (r : _) (s : _) → evaluate-known.Post κs a r s
+    → Rattle.evaluator.specs.Said.saidEvaluated r ≡ Rattle.definitions.specs.Evaluate.evaluatingKnown (columns a) (a .1 .1 .1 .1 .1 .1 .0) (now (a .1 .1 .1 .1 .1 .1 .1 .0)) (now (a .1 .1 .1 .1 .1 .1 .1 .1 .0))
+evaluating-known-as-defined κs a r s p = p
+
+-- Value lines: the new length and both rows afterwards are those of `valuing`. A refused block changes no bit.
+pub valuing-as-defined : (κs : _) (a : _) (r : _) (s : _) → read-values.Post κs a r s
+    → ReadsValues (now (a .0)) (a .1 .0) (now (a .1 .1 .0)) (now (a .1 .1 .1 .0)) r (now (s .1 .1 .0)) (now (s .1 .1 .1 .0))
+valuing-as-defined κs a r s p = p
+
 -- One answer: two answers that a contract allows are equal, and so is what they leave.
 pub reading-one : {o : Options} {f : List ℕ} {t t₁ t₂ : Table} (r₁ r₂ : _) → Reads o f t r₁ t₁ → Reads o f t r₂ t₂ → (r₁ ≡ r₂) × (t₁ ≡ t₂)
 reading-one r₁ r₂ p q = (Rattle.reader.proofs.OneTable.said-answer r₁ r₂ (p .answer ∙ sym (q .answer)), p .after ∙ sym (q .after))
@@ -52,6 +71,9 @@ normalising-one r₁ r₂ p q = (Rattle.normaliser.proofs.OneAnswer.said-answer
 
 pub evaluating-one : (r₁ r₂ : _) → Rattle.evaluator.specs.Said.saidEvaluated r₁ ≡ Rattle.evaluator.specs.Said.saidEvaluated r₂ → r₁ ≡ r₂
 evaluating-one = Rattle.evaluator.proofs.OneAnswer.said-evaluated
+
+pub valuing-one : {b : List ℕ} {n : ℕ} {ws ks ws₁ ks₁ ws₂ ks₂ : List ℕ} (r₁ r₂ : _) → ReadsValues b n ws ks r₁ ws₁ ks₁ → ReadsValues b n ws ks r₂ ws₂ ks₂ → (r₁ ≡ r₂) × (ws₁ ≡ ws₂) × (ks₁ ≡ ks₂)
+valuing-one r₁ r₂ p q = (Rattle.values.proofs.OneAnswer.said-read r₁ r₂ (p .answer ∙ sym (q .answer)), p .values ∙ sym (q .values), p .known ∙ sym (q .known))
 
 -- Every example that 01 marks P is answered so by whatever the contracts of reader and writer allow.
 pub examples-answered : Rattle.promise.proofs.TableP.EveryExampleAnswered
@@ -78,3 +100,19 @@ same-answers = Rattle.definitions.proofs.SameAnswers.same-answers
 -- The OPB document's files are read, with the document's meaning.
 pub document-read : (f : Rattle.definitions.specs.Document.File) → Rattle.definitions.specs.Document.WellFormed f → Rattle.definitions.specs.DocumentRead.WithinLimits f → Rattle.definitions.proofs.OpbDocument.DocumentRead f
 document-read = Rattle.definitions.proofs.OpbDocument.document-read
+
+-- A block of value lines that is accepted: what was known stays known, with its value.
+pub known-stays : (b : List ℕ) (n : ℕ) (ws ks cs : List ℕ) → valuing b n ws ks ≡ accepted cs → (v : ℕ) → isKnown ws ks v ≡ true
+    → (isKnown (valuesAfter (valuing b n ws ks) ws) (knownAfter (valuing b n ws ks) ks) v ≡ true) × (assigned (valuesAfter (valuing b n ws ks) ws) v ≡ assigned ws v)
+known-stays = Rattle.values.proofs.Kept.known-stays
+
+-- Signed numbers and `x` tokens may be read twice: the second time changes nothing more.
+pub read-again : (b : List ℕ) (n : ℕ) (ws ks cs : List ℕ) → valuing b n ws ks ≡ accepted cs → (m : ℕ) → newLength n (valuing b n ws ks) ≡ accepted m → (formOf b ≡ SignedNumbers) ⊎ (formOf b ≡ XTokens)
+    → Rattle.values.proofs.Kept.Unchanged b m (valuesAfter (valuing b n ws ks) ws) (knownAfter (valuing b n ws ks) ks) cs
+read-again = Rattle.values.proofs.Kept.read-again
+
+-- A constraint that was evaluated over known variables has that sum, and holds or not, under every assignment that agrees on them: what stays unknown does not matter.
+pub known-suffices : (t : Table) (i : ℕ) (ws ks : List ℕ) (b : Assignment) → ((v : ℕ) → isKnown (looked ws) (looked ks) v ≡ true → b v ≡ assigned (looked ws) v)
+    → (sum : ℤ) (h : Bool) (ones : ℕ) → Rattle.definitions.specs.Evaluate.evaluatingKnown t i ws ks ≡ accepted (Rattle.definitions.specs.Evaluate.Evaluated.constraint sum h ones)
+    → Rattle.evaluator.proofs.Meant.ConstraintMeant t i (isKnown (looked ws) (looked ks)) b sum h
+known-suffices = Rattle.evaluator.proofs.Agree.agree-constraint

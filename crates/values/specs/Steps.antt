@@ -6,6 +6,8 @@ use lib.ListN.{drop}
 use Rattle.definitions.specs.Refusal.{Checked, refuse, accept}
 use Rattle.definitions.specs.Values.{Item, untagged, token, Spot, front, between, itemsFrom}
 use Rattle.values.specs.Said.{tokenSays}
+use Rattle.values.specs.declared.tokens.Token.{Token}
+use Rattle.values.specs.declared.tokens.Token.the-variants as said
 use Rattle.values.specs.declared.items.Sought.{Sought}
 use Rattle.values.specs.declared.items.Sought.the-variants as sought
 use Rattle.values.specs.declared.items.Next.{Next}
@@ -54,6 +56,13 @@ saidNext block next.End = ends
 saidNext block (next.Refused number place) = refuses number place
 saidNext block (next.Nothing place end) = says place [] (onFrom block end)
 saidNext block (next.Says place end l) = says place (l .0 ∷ []) (onFrom block end)
+
+-- a token from place to end, by what it says
+abbrev pub metOf : Token → ℕ → ℕ → Next
+metOf said.Bad place end = next.Refused 21 place
+metOf said.Beyond place end = next.Refused 5 place
+metOf said.Nothing place end = next.Nothing place end
+metOf (said.Literal l) place end = next.Says place end l
 
 -- a token lies ahead, and within the block
 abbrev pub Ahead : Next → ℕ → ℕ → Type 0

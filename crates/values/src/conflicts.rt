@@ -8,17 +8,15 @@ use crate::words::make_bit;
 use symbols::Lit;
 ghost use mathlib.Core.Path.{_≡_};
 ghost use mathlib.Core.List.{[]};
-ghost use Prim.Native.Nat.{_≤_};
+ghost use Prim.Native.Nat.{_≤_, min};
 ghost use lib.ListN.{length};
-ghost use Rattle.definitions.specs.Limits.{indexLimit};
+ghost use Rattle.definitions.specs.Literal.{indexOf};
 ghost use Rattle.definitions.specs.Values.{front, itemsFrom};
 ghost use Rattle.values.specs.Flat.{saidBy};
-ghost use Rattle.values.specs.Windows.{conflictAt, windowOf};
+ghost use Rattle.values.specs.Windows.{conflictAt, windowOf, marksSize, PlacesBelow, Unmarked, clashes, meetOf, markedBy, noted};
 
-// How many variables a window has, and the words for its literals' bits.
+// How many variables a window has.
 const WINDOW: u32 = 1_048_576;
-
-const MARKS: usize = 32_768;
 
 // "variable index: 1,073,741,823"
 const INDEX_LIMIT: u32 = 1_073_741_823;
@@ -37,9 +35,22 @@ enum Met {
     Marked,
 }
 
-// The mark of a literal is the bit of its code, counted from the window's first.
+// Whether a literal of the window is known otherwise, or its opposite is marked. The mark of a literal is the bit of its code, counted from the window's first.
+fn clashes(literal: Lit, base: u32, marks: &[u64], values: &[u64], known: &[u64]) -> bool
+    requires { ⌜ base ≤ indexOf (literal .0) ⌝ }
+    ensures { λ r. ⌜ r ≡ clashes (now (values .entry)) (now (known .entry)) (now (marks .entry)) base (literal .0) ⌝ }
+{
+    if is_otherwise(literal, values, known) {
+        return true;
+    }
+    let opposite = literal.negated().code();
+    bit_at(marks, (opposite - 2 * base) as usize)
+}
+
+// A literal of the window that does not clash is marked.
 fn meet(literal: Lit, base: u32, marks: &mut [u64], values: &[u64], known: &[u64]) -> Met
-    requires { ⌜ base ≤ indexLimit ⌝ }
+    ensures met { λ r. ⌜ r ≡ meetOf (now (values .entry)) (now (known .entry)) (now (marks .entry)) base (literal .0) ⌝ }
+    ensures marks { λ r. ⌜ now (marks .exit) ≡ markedBy r base (literal .0) (now (marks .entry)) ⌝ }
 {
     let v = literal.var().index();
     if v < base {
@@ -48,11 +59,7 @@ fn meet(literal: Lit, base: u32, marks: &mut [u64], values: &[u64], known: &[u64
     if v - base >= WINDOW {
         return Met::Behind(v);
     }
-    let opposite = (literal.negated().code() - 2 * base) as usize;
-    if is_otherwise(literal, values, known) {
-        return Met::Conflict;
-    }
-    if bit_at(marks, opposite) {
+    if clashes(literal, base, marks, values, known) {
         return Met::Conflict;
     }
     let mark = (literal.code() - 2 * base) as usize;
@@ -60,11 +67,37 @@ fn meet(literal: Lit, base: u32, marks: &mut [u64], values: &[u64], known: &[u64
     Met::Marked
 }
 
-fn least(a: u32, b: u32) -> u32 {
+fn least(a: u32, b: u32) -> u32
+    ensures { λ r. ⌜ r ≡ min a b ⌝ }
+{
     if a < b { a } else { b }
 }
 
-// After the first conflict the walk goes on for the variables behind the window; a later conflict has a later place.
+fn earlier(a: usize, b: usize) -> usize
+    ensures { λ r. ⌜ r ≡ min a b ⌝ }
+{
+    if a < b { a } else { b }
+}
+
+// The answer so far, with one literal more. After the first conflict the walk goes on for the variables behind the window; a later conflict has a later place.
+fn note(met: Met, place: usize, found: Window) -> Window
+    ensures { λ r. ⌜ r ≡ noted met place found ⌝ }
+{
+    match met {
+        Met::Before => found,
+        Met::Behind(v) => Window {
+            place: found.place,
+            next: least(found.next, v),
+        },
+        Met::Conflict => Window {
+            place: earlier(found.place, place),
+            next: found.next,
+        },
+        Met::Marked => found,
+    }
+}
+
+// The walk for the window that begins at `base`, with no mark set before it.
 fn mark_window(
     block: &[u8],
     named: bool,
@@ -73,45 +106,44 @@ fn mark_window(
     marks: &mut [u64],
     values: &[u64],
     known: &[u64],
-) -> Window {
-    let mut found = end;
-    let mut behind = INDEX_LIMIT + 1;
+) -> Window
+    requires size { ⌜ length (now marks) ≡ marksSize ⌝ }
+    requires unmarked { ⌜ Unmarked (now marks) ⌝ }
+    requires places { ⌜ PlacesBelow end (saidBy named (itemsFrom front 0 (now block))) ⌝ }
+    ensures { λ r. ⌜ r ≡ windowOf (now (values .entry)) (now (known .entry)) end base (saidBy named (itemsFrom front 0 (now (block .entry)))) ⌝ }
+{
+    let mut found = Window {
+        place: end,
+        next: INDEX_LIMIT + 1,
+    };
     let mut at: usize = 0;
     let mut opens = true;
     loop {
         match next_token(block, at, opens, named) {
-            Next::End => break,
+            Next::End => return found,
             Next::Refused {
                 number: _,
                 place: _,
-            } => break,
-            Next::Nothing { place: _, end } => at = end,
+            } => return found,
+            Next::Nothing {
+                place: _,
+                end: behind,
+            } => at = behind,
             Next::Says {
                 place,
-                end,
+                end: behind,
                 literal,
             } => {
-                match meet(literal, base, marks, values, known) {
-                    Met::Behind(v) => behind = least(behind, v),
-                    Met::Conflict => {
-                        if place < found {
-                            found = place;
-                        }
-                    }
-                    Met::Before => {}
-                    Met::Marked => {}
-                }
-                at = end;
+                let met = meet(literal, base, marks, values, known);
+                found = note(met, place, found);
+                at = behind;
             }
         }
         opens = false;
     }
-    Window {
-        place: found,
-        next: behind,
-    }
 }
 
+// Two literals to a variable, 64 marks to a word: 32,768 words.
 fn walk_for(
     block: &[u8],
     named: bool,
@@ -120,6 +152,7 @@ fn walk_for(
     values: &[u64],
     known: &[u64],
 ) -> Window
+    requires { ⌜ PlacesBelow end (saidBy named (itemsFrom front 0 (now block))) ⌝ }
     ensures { λ r. ⌜ r ≡ windowOf (now (values .entry)) (now (known .entry)) end base (saidBy named (itemsFrom front 0 (now (block .entry)))) ⌝ }
 {
     let mut marks = [0u64; 32768];
@@ -134,15 +167,14 @@ pub(crate) fn first_conflict(
     values: &[u64],
     known: &[u64],
 ) -> usize
+    requires { ⌜ PlacesBelow end (saidBy named (itemsFrom front 0 (now block))) ⌝ }
     ensures { λ r. ⌜ r ≡ conflictAt (now (values .entry)) (now (known .entry)) [] end (saidBy named (itemsFrom front 0 (now (block .entry)))) ⌝ }
 {
     let mut found = end;
     let mut base: u32 = 0;
     while base <= INDEX_LIMIT {
         let w = walk_for(block, named, end, base, values, known);
-        if w.place < found {
-            found = w.place;
-        }
+        found = earlier(found, w.place);
         base = w.next;
     }
     found

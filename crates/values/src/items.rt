@@ -8,7 +8,7 @@ ghost use mathlib.Core.Path.{_≡_};
 ghost use Prim.Native.Nat.{_≤_};
 ghost use lib.ListN.{length, drop};
 ghost use Rattle.definitions.specs.Values.{itemsFrom};
-ghost use Rattle.values.specs.Steps.{spotOf, soughtOf, saidSought, stepOf, saidNext, Ahead};
+ghost use Rattle.values.specs.Steps.{spotOf, soughtOf, saidSought, stepOf, saidNext, metOf, Ahead};
 
 // The offset of the line's, or the token's, first byte.
 pub(crate) enum Sought {
@@ -60,7 +60,9 @@ pub(crate) fn seek(block: &[u8], from: usize, front: bool) -> Sought
 }
 
 // A token that was met, in the words of the walks.
-fn met(token: Token, place: usize, end: usize) -> Next {
+fn met(token: Token, place: usize, end: usize) -> Next
+    ensures { λ r. ⌜ r ≡ metOf token place end ⌝ }
+{
     match token {
         Token::Bad => Next::Refused { number: 21, place },
         Token::Beyond => Next::Refused { number: 5, place },

@@ -8,7 +8,6 @@ use symbols::Lit;
 use symbols::LitRead;
 use symbols::Var;
 ghost use mathlib.Core.Path.{_≡_};
-ghost use mathlib.Core.Bool.{true};
 ghost use mathlib.Core.List.{[]};
 ghost use Prim.Native.Nat.{_+_, _≤_, _<_};
 ghost use lib.Dec.{leb, eqb};
@@ -18,7 +17,7 @@ ghost use Rattle.definitions.specs.Literal.{codeOf};
 ghost use Rattle.definitions.specs.Values.{front, itemsFrom, formOf, hear, appended, anyConflict, valued, marked};
 ghost use Rattle.definitions.specs.declared.Form.the-variants.{ZerosAndOnes};
 ghost use Rattle.values.specs.Steps.{soughtOf, onFrom};
-ghost use Rattle.values.specs.Strings.{behindOf, saidChecked, Fitting};
+ghost use Rattle.values.specs.Strings.{behindOf, checkedAt, saidChecked, Fitting};
 
 // 20, 5 or 22; no string; or where it stands.
 pub(crate) enum Checked {
@@ -102,6 +101,7 @@ fn check_behind(block: &[u8], place: usize, end: usize) -> Checked
 // The string at `place`: 5, 22, and what stands behind it.
 fn check_at(block: &[u8], place: usize, kept: u64, values: &[u64], known: &[u64]) -> Checked
     requires { ⌜ place ≤ length (now block) ⌝ }
+    ensures { λ r. ⌜ r ≡ checkedAt kept (now (values .entry)) (now (known .entry)) (now (block .entry)) place ⌝ }
 {
     let count = solid_run(&block[place..]);
     let end = place + count;

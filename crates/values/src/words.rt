@@ -3,9 +3,10 @@ use symbols::Lit;
 ghost use mathlib.Core.Path.{_≡_};
 ghost use mathlib.Core.Bool.{not, _&&_};
 ghost use mathlib.Core.List.{[], _∷_};
+ghost use Prim.Native.Nat.{_<_};
 ghost use Rattle.definitions.specs.Literal.{indexOf};
 ghost use Rattle.definitions.specs.Meaning.{isTrue, assigned, isKnown};
-ghost use Rattle.definitions.specs.Values.{bitMade, valued, marked};
+ghost use Rattle.definitions.specs.Values.{wordWith, bitMade, valued, marked};
 
 pub(crate) fn bit_at(words: &[u64], index: usize) -> bool
     ensures { λ r. ⌜ r ≡ assigned (now (words .entry)) index ⌝ }
@@ -17,7 +18,21 @@ pub(crate) fn bit_at(words: &[u64], index: usize) -> bool
     (word >> (index % 64)) % 2 == 1
 }
 
-// The bit is turned by adding or taking away its power of two, where it is not yet as it should be.
+// The word with bit k made: its power of two is added or taken away where the bit is not yet as it should be.
+fn word_with(one: bool, k: usize, word: u64) -> u64
+    requires { ⌜ k < 64 ⌝ }
+    ensures { λ r. ⌜ r ≡ wordWith one k word ⌝ }
+{
+    let power = 1u64 << k;
+    if (word >> k) % 2 == 1 {
+        if one { word } else { word - power }
+    } else if one {
+        word + power
+    } else {
+        word
+    }
+}
+
 pub(crate) fn make_bit(words: &mut [u64], index: usize, one: bool)
     ensures { λ r. ⌜ now (words .exit) ≡ bitMade one index (now (words .entry)) ⌝ }
 {
@@ -26,10 +41,7 @@ pub(crate) fn make_bit(words: &mut [u64], index: usize, one: bool)
         return;
     }
     let word = words[place];
-    let power = 1u64 << (index % 64);
-    let is_one = (word >> (index % 64)) % 2 == 1;
-    let cleared = if is_one { word - power } else { word };
-    words[place] = if one { cleared + power } else { cleared };
+    words[place] = word_with(one, index % 64, word);
 }
 
 // Whether the literal's variable is known with another value.

@@ -1,5 +1,5 @@
 -- `evaluator::answer` meets its contract: the sum and the ones are the definition's, and with them the answer is (proofs/Answers.antt). Assumes nothing.
-use mathlib.Core.Path.{_∙_}
+use mathlib.Core.Path.{sym, _∙_}
 use mathlib.Core.Logic.{inl, inr, ⊎-elim}
 use native.Mathlib.Omega.{arith}
 use borrow.Author.Needs.{needs}
@@ -8,6 +8,7 @@ use mir.Syntax.{w64}
 use mir.Val.{SFits}
 use mir.Facts.{toZ-ofZ}
 use Rattle.definitions.specs.Table.{termsOn}
+use Rattle.definitions.specs.Meaning.{assigned}
 use Rattle.columns.specs.Kinds.{readKind}
 use Rattle.columns.proofs.KindNumbers.{kind-constraint, kind-other}
 use Rattle.evaluator.proofs.Answers.{constraint-found, objective-found}
@@ -30,23 +31,23 @@ returns : tie.Need-returns
 returns c =
     let k = c .before .before .before in
     let z = k .before .sum-of in
-    let s = k .before .before .before .before in
+    let s = k .before .before .before .before .before in
     let f : SFits w64 (z .result) = record { sfits = z .ok } in
-    rw (toZ-ofZ f)
-    (constraint-found (readKind (s .args .kind)) (s .args .bound) (termsOn (now (s .args .weights)) (now (s .args .literals))) (now (s .args .words))
-    (z .result) (k .ones-of .result) (s .args .row) (z .ensures) (k .ones-of .ensures)
+    rw (toZ-ofZ f, ← k .ones-of .ensures)
+    (constraint-found (readKind (s .args .kind)) (s .args .bound) (termsOn (now (s .args .weights)) (now (s .args .literals))) (assigned (now (s .args .words)))
+    (z .result) (k .ones-of .result) (s .args .row) (z .ensures)
     (c .holds .result) (c .holds .ensures ∙ simp (toZ-ofZ f, toZ-ofZ (s .fits .bound))) (kind-constraint (s .args .kind) (omega arith) (omega arith)))
 
 returns-2 : tie.Need-returns-2
 returns-2 c =
     let k = c .before .before in
     let z = k .before .sum-of in
-    let s = k .before .before .before .before in
+    let s = k .before .before .before .before .before in
     let f : SFits w64 (z .result) = record { sfits = z .ok } in
     c .objective .ensures
-    ∙ simp (toZ-ofZ f, toZ-ofZ (s .fits .bound))
-    (objective-found (readKind (s .args .kind)) (s .args .bound) (termsOn (now (s .args .weights)) (now (s .args .literals))) (now (s .args .words))
-    (z .result) (k .ones-of .result) (s .args .row) (z .ensures) (k .ones-of .ensures)
+    ∙ simp (toZ-ofZ f, toZ-ofZ (s .fits .bound), sym (k .ones-of .ensures))
+    (objective-found (readKind (s .args .kind)) (s .args .bound) (termsOn (now (s .args .weights)) (now (s .args .literals))) (assigned (now (s .args .words)))
+    (z .result) (k .ones-of .result) (s .args .row) (z .ensures)
     (kind-other (s .args .kind) (⊎-elim (λ w. inl (omega arith)) (λ w. inr (omega arith)) (c .before .if1 .came))))
 
 pub answer-spec : {M : Type 1} → statement M

@@ -1,23 +1,43 @@
 -- `evaluator::covered` meets its contract. The loop's invariant: what is left of the codes decides. The measure is what is left of the length.
 -- Assumes nothing.
-use mathlib.Core.Path.{_≡_, refl, sym, _∙_}
-use Prim.Native.Nat.{_*_, _≤_, _-_}
+use mathlib.Core.Path.{_≡_, refl, sym, ap, _∙_}
+use mathlib.Core.Bool.{Bool}
+use Prim.Native.Nat.{ℕ, _≤_, _-_}
 use native.Mathlib.Omega.{arith}
 use borrow.Author.Needs.{needs}
-use borrow.Author.Tests.{lt-ltb, le-ltb}
+use borrow.Author.Tests.{not-true, not-false}
 use denote.Ref.{now}
 use lib.ListN.{length, getD, drop}
 use Rattle.definitions.specs.Literal.{indexOf}
 use Rattle.columns.proofs.Every.{every-end, every-fails, every-passes}
-use Rattle.evaluator.specs.Parts.{codesCovered}
+use Rattle.evaluator.specs.Parts.{hasBy, codesCovered}
 use Rattle.evaluator.proofs.covered.Statement.{statement}
 use Rattle.evaluator.proofs.covered.Tie as tie
 
 abbrev Inv-loop : tie.InvT-loop
-Inv-loop literals words i₀ i = (i ≤ length literals) × (codesCovered words literals ≡ codesCovered words (drop i literals))
+Inv-loop literals words known all i₀ i =
+    (i ≤ length literals) × (codesCovered (hasBy all words known) literals ≡ codesCovered (hasBy all words known) (drop i literals))
 
 abbrev μ-loop : tie.MeasureT-loop
-μ-loop literals words i₀ i = length literals - i
+μ-loop literals words known all i₀ i = length literals - i
+
+-- ---- at a literal that was asked for
+
+abbrev At : Type 0
+At = tie.After-has-value Inv-loop μ-loop
+
+abbrev start : At → tie.Start Inv-loop μ-loop
+start k = k .before .before .before .before .before .before .before .before .before .before
+
+abbrev place : At → ℕ
+place k = k .before .before .before .before .before .before .loop .i
+
+abbrev has : At → ℕ → Bool
+has k = let a = start k .args in hasBy (a .all) (now (a .words)) (now (a .known))
+
+-- what the call says of the code that is read
+asked : (k : At) → has k (indexOf (getD (now (start k .args .literals)) (place k) 0)) ≡ k .has-value .result
+asked k = ap (has k) (sym (k .before .index .ensures ∙ k .before .before .var .ensures ∙ ap indexOf (k .before .before .before .of-code .ensures))) ∙ sym (k .has-value .ensures)
 
 loop-holds : tie.Need-loop-holds Inv-loop μ-loop
 loop-holds c = (omega arith, refl)
@@ -40,12 +60,14 @@ index-requires c κs = search needs
 cast-v : tie.Need-cast-v Inv-loop μ-loop
 cast-v c = search needs
 
+has-value-requires : tie.Need-has-value-requires Inv-loop μ-loop
+has-value-requires c κs = search needs
+
 returns : tie.Need-returns Inv-loop μ-loop
 returns c =
-    let l = c .before .before .before .before .before .before .loop in
-    let a = c .before .before .before .before .before .before .before .before .before .args in
-    let cs = now (a .literals) in
-    sym (l .inv .1 ∙ every-fails _ cs (l .i) (omega arith) (le-ltb (indexOf (getD cs (l .i) 0)) (64 * length (now (a .words))) (omega arith)))
+    let k = c .before in
+    let l = k .before .before .before .before .before .before .loop in
+    sym (l .inv .1 ∙ every-fails (λ x. has k (indexOf x)) (now (start k .args .literals)) (l .i) (omega arith) (asked k ∙ not-true _ (c .if1 .taken)))
 
 add-i : tie.Need-add-i Inv-loop μ-loop
 add-i c = omega arith
@@ -55,10 +77,9 @@ loop-less c = omega arith
 
 loop-again : tie.Need-loop-again Inv-loop μ-loop
 loop-again c =
-    let l = c .before .before .before .before .before .before .loop in
-    let a = c .before .before .before .before .before .before .before .before .before .args in
-    let cs = now (a .literals) in
-    (omega arith, l .inv .1 ∙ every-passes _ cs (l .i) (omega arith) (lt-ltb (indexOf (getD cs (l .i) 0)) (64 * length (now (a .words))) (omega arith)))
+    let k = c .before in
+    let l = k .before .before .before .before .before .before .loop in
+    (omega arith, l .inv .1 ∙ every-passes (λ x. has k (indexOf x)) (now (start k .args .literals)) (l .i) (omega arith) (asked k ∙ not-false _ (c .if1 .left)))
 
 returns-2 : tie.Need-returns-2 Inv-loop μ-loop
 returns-2 c = let l = c .before .loop in sym (l .inv .1 ∙ every-end _ _ (l .i) (c .loop-test .left))
@@ -76,6 +97,7 @@ covered-spec =
     var-requires
     index-requires
     cast-v
+    has-value-requires
     returns
     add-i
     loop-less

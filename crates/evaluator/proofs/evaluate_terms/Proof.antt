@@ -1,7 +1,7 @@
 -- `evaluator::evaluate_terms` meets its contract: each refusal is where the definition gives it, in its order (proofs/Answers.antt). Assumes nothing.
 use mathlib.Core.Path.{_≡_, sym, _∙_}
-use mathlib.Core.Bool.{true}
-use Prim.Native.Nat.{_≤_}
+use mathlib.Core.Bool.{Bool, true, false}
+use Prim.Native.Nat.{ℕ, _≤_}
 use native.Mathlib.Omega.{arith}
 use borrow.Author.Needs.{needs}
 use borrow.Author.Tests.{not-true, not-false}
@@ -10,14 +10,15 @@ use mir.Facts.{toZ-ofZ}
 use Rattle.definitions.specs.Limits.{weightLimit}
 use Rattle.columns.specs.Parts.{codesIndexed, weightSizes}
 use Rattle.columns.proofs.Terms.{sizes-on}
-use Rattle.evaluator.specs.Parts.{codesCovered}
+use Rattle.evaluator.specs.Parts.{hasBy, codesCovered}
+use Rattle.evaluator.proofs.Known.{covered-within}
 use Rattle.evaluator.proofs.Answers.{refused-is, terms-11, terms-8, terms-12, terms-found}
 use Rattle.evaluator.proofs.evaluate_terms.Statement.{statement}
 use Rattle.evaluator.proofs.evaluate_terms.Tie as tie
 
 -- from the place behind the three questions
 abbrev start : tie.After-covered → tie.Start
-start c = c .before .before .before .before .before
+start c = c .before .before .before .before .before .before
 
 -- ---- what the tests left
 
@@ -27,9 +28,14 @@ indexes c = sym (c .before .before .before .indexed-of .ensures) ∙ not-false _
 small : (c : tie.Else2) → weightSizes (now (start (c .before .before) .args .weights)) ≤ weightLimit
 small c = omega (arith, c .before .before .before .sizes-of .ensures)
 
-covers : (c : tie.Else3)
-    → codesCovered (now (start (c .before .before .before) .args .words)) (now (start (c .before .before .before) .args .literals)) ≡ true
+abbrev has : tie.After-covered → ℕ → Bool
+has k = let a = start k .args in hasBy (a .all) (now (a .words)) (now (a .known))
+
+covers : (c : tie.Else3) → codesCovered (has (c .before .before .before)) (now (start (c .before .before .before) .args .literals)) ≡ true
 covers c = sym (c .before .before .before .covered .ensures) ∙ not-false _ (c .if3 .left)
+
+uncovered : (c : tie.Then3) → codesCovered (has (c .before .before .before)) (now (start (c .before .before .before) .args .literals)) ≡ false
+uncovered c = sym (c .before .before .before .covered .ensures) ∙ not-true _ (c .if3 .taken)
 
 -- ---- the needs
 
@@ -50,7 +56,7 @@ returns c =
     let k = c .before .before in
     let a = start k .args in
     refused-is 11 _ _ _ (c .refused .ensures)
-    (terms-11 (a .kind) (a .bound) (now (a .weights)) (now (a .literals)) (now (a .words)) (start k .pre .0)
+    (terms-11 (a .kind) (a .bound) (now (a .weights)) (now (a .literals)) (a .all) (now (a .words)) (now (a .known)) (start k .pre .0)
     (sym (k .before .before .indexed-of .ensures) ∙ not-true _ (c .before .if1 .taken)))
 
 refused-requires-2 : tie.Need-refused-requires-2
@@ -62,7 +68,7 @@ returns-2 c =
     let k = d .before in
     let a = start k .args in
     refused-is 8 _ _ _ (c .refused2 .ensures)
-    (terms-8 (a .kind) (a .bound) (now (a .weights)) (now (a .literals)) (now (a .words)) (start k .pre .0) (indexes d)
+    (terms-8 (a .kind) (a .bound) (now (a .weights)) (now (a .literals)) (a .all) (now (a .words)) (now (a .known)) (start k .pre .0) (indexes d)
     (omega (arith, c .before .if2 .taken, k .before .sizes-of .ensures)))
 
 refused-requires-3 : tie.Need-refused-requires-3
@@ -74,21 +80,21 @@ returns-3 c =
     let k = d .before .before in
     let a = start k .args in
     refused-is 12 _ _ _ (c .refused3 .ensures)
-    (terms-12 (a .kind) (a .bound) (now (a .weights)) (now (a .literals)) (now (a .words)) (start k .pre .0) (indexes (d .before)) (small d)
-    (sym (k .covered .ensures) ∙ not-true _ (c .before .if3 .taken)))
+    (terms-12 (a .kind) (a .bound) (now (a .weights)) (now (a .literals)) (a .all) (now (a .words)) (now (a .known)) (start k .pre .0) (indexes (d .before)) (small d) (uncovered (c .before)))
 
 answer-requires : tie.Need-answer-requires
 answer-requires c κs =
     let s = start (c .before .before .before) in
     let e = sizes-on (now (s .args .weights)) (now (s .args .literals)) (s .pre .0) in
-    (s .pre .0, (s .pre .1, (omega (arith, e, small (c .before)), covers c)))
+    let a = s .args in
+    (s .pre .0, (s .pre .1, (omega (arith, e, small (c .before)), covered-within (a .all) (now (a .words)) (now (a .known)) (now (a .literals)) (covers c))))
 
 returns-4 : tie.Need-returns-4
 returns-4 c =
     let d = c .before .before in
     let k = d .before .before in
     let a = start k .args in
-    rw (terms-found (a .kind) (a .bound) (now (a .weights)) (now (a .literals)) (now (a .words)) (start k .pre .0) (indexes (d .before)) (small d) (covers (c .before)))
+    rw (terms-found (a .kind) (a .bound) (now (a .weights)) (now (a .literals)) (a .all) (now (a .words)) (now (a .known)) (start k .pre .0) (indexes (d .before)) (small d) (covers (c .before)))
     (rw (toZ-ofZ (start k .fits .bound)) at (c .answer .ensures))
 
 pub evaluate-terms-spec : {M : Type 1} → statement M
