@@ -1,10 +1,11 @@
 /* The library for tests/solvers/run: a plan on standard input, read with first index 1.
  *
  *   bridge rewrite PLAIN [FAULT]   reads the plan, normalises it and writes it; PLAIN 1 is no-negated mode
- *   bridge judge VALUES            reads the plan; for each row that is no comment a line: its truth (0 or 1) or `=` and an objective's value, by our evaluator. VALUES is a string
- *                                  of 0 and 1, the variables from x1 on
+ *   bridge judge BLOCK [FAULT]     reads the plan, and BLOCK, a solver's value lines; for each row that is no comment a line: its truth (0 or 1) or `=` and an objective's value, by our
+ *                                  evaluator over what is known, `?` where a variable is not known
  *
- * FAULT plants a fault, as if the library had it: `bound` adds 1 to the bound of the last constraint, `less` reads `<` as `<=`, `row` drops the last row. Exit status 1 on a refusal. */
+ * FAULT plants a fault, as if the library had it: `bound` adds 1 to the bound of the last constraint, `less` reads `<` as `<=`, `row` drops the last row, `sign` reads `-x` as `x` in value lines.
+ * Exit status 1 on a refusal, or where a row that has a value under what is known has another under all bits. */
 #include <inttypes.h>
 #include <stdio.h>
 #include <stdlib.h>
@@ -15,6 +16,7 @@
 #define BYTES (1 << 20)
 #define ROWS 4096
 #define TERMS 65536
+#define WORDS 64
 
 typedef struct {
     uint8_t kinds[ROWS];
@@ -27,6 +29,7 @@ typedef struct {
 static uint8_t file[BYTES], out[BYTES];
 static size_t length;
 static table given, normal;
+static uint64_t values[WORDS], known[WORDS];
 
 static int refused(const char *call, uint8_t number, uint64_t place) {
     if (number != OPB_ACCEPTED) fprintf(stderr, "%s: refusal %d, place %" PRIu64 "\n", call, number, place);
@@ -73,28 +76,45 @@ static int rewrite(uint8_t plain, const char *fault) {
     return 0;
 }
 
-static int judge(const char *values) {
+/* The value lines: nothing is lent at first, then the words that the refusal asks for; nothing was changed by the refused call. */
+static size_t read_block(const char *block) {
+    opb_length a = opb_values((const uint8_t *)block, strlen(block), 0, values, 0, known, 0);
+    size_t words = a.refusal == OPB_REFUSED_ASSIGNMENT && a.place <= WORDS ? a.place : 0;
+    a = opb_values((const uint8_t *)block, strlen(block), 0, values, words, known, words);
+    if (refused("opb_values", a.refusal, a.place)) exit(1);
+    return words;
+}
+
+static int judge_row(size_t row, size_t words) {
     table *t = &given;
-    uint64_t words[TERMS / 64] = {0};
-    if (read_plan()) return 1;
-    for (size_t v = 0; values[v] != 0 && v < TERMS; v++)
-        if (values[v] == '1') words[v / 64] |= UINT64_C(1) << (v % 64);
-    for (size_t row = 0; row < t->rows; row++) {
-        if (t->kinds[row] == OPB_COMMENT) continue;
-        opb_value a = opb_evaluate(t->kinds, t->rows, t->firsts, t->rows, t->counts, t->rows, t->bounds, t->rows, t->weights, t->terms, t->literals, t->terms,
-                                   row, words, (strlen(values) + 63) / 64);
-        if (refused("opb_evaluate", a.refusal, a.place)) return 1;
-        if (t->kinds[row] == OPB_OBJECTIVE)
-            printf("=%" PRId64 "\n", a.value);
-        else
-            printf("%d\n", a.holds);
+    opb_value a = opb_evaluate_known(t->kinds, t->rows, t->firsts, t->rows, t->counts, t->rows, t->bounds, t->rows, t->weights, t->terms, t->literals, t->terms,
+                                     row, values, words, known, words);
+    opb_value b = opb_evaluate(t->kinds, t->rows, t->firsts, t->rows, t->counts, t->rows, t->bounds, t->rows, t->weights, t->terms, t->literals, t->terms, row, values, words);
+    if (a.refusal == OPB_REFUSED_ASSIGNMENT) {
+        printf("?\n");
+        return 0;
     }
+    if (refused("opb_evaluate_known", a.refusal, a.place)) return 1;
+    if (b.refusal || a.value != b.value || a.holds != b.holds) return 1;
+    if (t->kinds[row] == OPB_OBJECTIVE)
+        printf("=%" PRId64 "\n", a.value);
+    else
+        printf("%d\n", a.holds);
+    return 0;
+}
+
+static int judge(char *block, const char *fault) {
+    if (read_plan()) return 1;
+    for (char *at = block; strcmp(fault, "sign") == 0 && (at = strstr(at, "-x")); at++) *at = ' ';
+    size_t words = read_block(block);
+    for (size_t row = 0; row < given.rows; row++)
+        if (given.kinds[row] != OPB_COMMENT && judge_row(row, words)) return 1;
     return 0;
 }
 
 int main(int count, char **words) {
     if (count >= 3 && strcmp(words[1], "rewrite") == 0) return rewrite((uint8_t)atoi(words[2]), count > 3 ? words[3] : "");
-    if (count == 3 && strcmp(words[1], "judge") == 0) return judge(words[2]);
-    fprintf(stderr, "bridge rewrite PLAIN [FAULT] | bridge judge VALUES\n");
+    if (count >= 3 && strcmp(words[1], "judge") == 0) return judge(words[2], count > 3 ? words[3] : "");
+    fprintf(stderr, "bridge rewrite PLAIN [FAULT] | bridge judge BLOCK [FAULT]\n");
     return 2;
 }

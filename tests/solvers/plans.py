@@ -2,8 +2,10 @@
 """Plans through our library and real solvers: plans.py SEED COUNT FAULT BRIDGE...
 
 Each case is a random plan in 01's wider syntax whose meaning is known here: it is solved by trying every assignment, in exact arithmetic. The library reads, normalises and writes it in both literal
-modes; each solver gets the mode that it takes. Then, for every solver: its value line keeps every row, as told here and by our evaluator; its value, with the offset that our writer printed, is the
-optimum; and so is the value that it reports. BRIDGE is the command that runs tests/solvers/bridge.c. A planted FAULT must be found: the run then says after how many cases it was.
+modes; each solver gets the mode that it takes. Then, for every solver: its value lines keep every row, as told here; its value, with the offset that our writer printed, is the optimum; and so is
+the value that it reports. The value lines as it prints them are also read by the library: every row of the plan and of the file that was written has a value under what is known, every constraint
+holds, the plan's objective has the optimum, the written one the value that the solver reports. BRIDGE is the command that runs tests/solvers/bridge.c. A planted FAULT must be found: the run then
+says after how many cases it was.
 """
 import itertools
 import operator
@@ -77,8 +79,8 @@ class Bridge:
         return done.stdout.decode()
 
 
-# the variables that a solver sets, and the value that it reports, if it does
-def solve(command, written, n):
+# the value lines that a solver prints, behind the last `o` line if there are any, and the value that it reports, if it does
+def solve(command, written):
     with tempfile.NamedTemporaryFile("w", suffix=".opb") as file:
         file.write(written)
         file.flush()
@@ -86,25 +88,35 @@ def solve(command, written, n):
     lines = said.splitlines()
     if "s OPTIMUM FOUND" not in lines:
         return None, None
-    true = {int(word[1:]) for line in lines if line.startswith("v ") for word in line.split()[1:] if word.startswith("x")}
+    last = max([0] + [at + 1 for at, line in enumerate(lines) if line.startswith("o ")])
+    values = [line for line in lines[last:] if line.startswith("v")] or [line for line in lines if line.startswith("v")]
     reported = [int(line.split()[1]) for line in lines if line.startswith("o ")]
-    return [v in true for v in range(1, n + 1)], reported[-1] if reported else None
+    return "\n".join(values), reported[-1] if reported else None
+
+
+# the variables that value lines set, read here
+def true_in(block, n):
+    true = {int(word[1:]) for word in block.split() if word.startswith("x")}
+    return [v in true for v in range(1, n + 1)]
 
 
 # what is wrong with a solver's answer, if anything
-def wrong(bridge, plan, text, best, offset, bits, reported):
+def wrong(bridge, plan, text, written, best, fault, block, reported):
     n, objective, rows = plan
-    if bits is None:
+    if block is None:
         return "it finds no optimum"
+    found = OFFSET.search(written)
+    bits, offset = true_in(block, n), int(found.group(1)) if found else 0
     if not keeps(rows, bits):
         return "its values break a row"
     if value(objective, bits) != best:
         return "its values give %d, the optimum is %d" % (value(objective, bits), best)
     if reported is not None and reported + offset != best:
         return "it reports %d, with the offset %d; the optimum is %d" % (reported, offset, best)
-    judged = bridge.call(text, "judge", "".join("01"[bit] for bit in bits)).split()
-    if judged != ["=%d" % best] + ["1"] * len(rows):
-        return "our evaluator says %s" % " ".join(judged)
+    for file, goal in ((text, best), (written, best - offset)):
+        judged = bridge.call(file, "judge", block, fault).split()
+        if judged != ["=%d" % goal] + ["1"] * len(rows):
+            return "of its value lines our evaluator says %s, the objective has %d" % (" ".join(judged), goal)
     return None
 
 
@@ -115,13 +127,11 @@ def main():
         plan = random_plan(rng)
         text, best = text_of(*plan), optimum(*plan)
         for plain in ("0", "1"):
-            written = bridge.call(text, "rewrite", plain, *([fault] if fault else []))
-            found = OFFSET.search(written)
-            offset = int(found.group(1)) if found else 0
+            written = bridge.call(text, "rewrite", plain, fault)
             for name, (command, modes) in SOLVERS.items():
                 if plain not in modes:
                     continue
-                why = wrong(bridge, plan, text, best, offset, *solve(command, written, plan[0]))
+                why = wrong(bridge, plan, text, written, best, fault, *solve(command, written))
                 if why and fault:
                     print("the fault `%s` was found by %s in case %d: %s" % (fault, name, case, why))
                     return 0
