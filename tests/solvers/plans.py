@@ -3,9 +3,10 @@
 
 Each case is a random plan in 01's wider syntax whose meaning is known here: it is solved by trying every assignment, in exact arithmetic. The library reads, normalises and writes it in both literal
 modes; each solver gets the mode that it takes. Then, for every solver: its value lines keep every row, as told here; its value, with the offset that our writer printed, is the optimum; and so is
-the value that it reports. The value lines as it prints them are also read by the library: every row of the plan and of the file that was written has a value under what is known, every constraint
-holds, the plan's objective has the optimum, the written one the value that the solver reports. BRIDGE is the command that runs tests/solvers/bridge.c. A planted FAULT must be found: the run then
-says after how many cases it was.
+the value that it reports. The value lines as it prints them are also read by the library, and every row of the plan and of the file that was written is evaluated under what is then known: every
+constraint holds, the plan's objective has the optimum, the written one the value that the solver reports. Where a solver says nothing of a variable (Sat4j, of one that is in the objective alone), its
+rows have no value; they do once a line behind the others says that such variables are false. BRIDGE is the command that runs tests/solvers/bridge.c. A planted FAULT must be found: the run then says
+after how many cases it was.
 """
 import itertools
 import operator
@@ -94,10 +95,17 @@ def solve(command, written):
     return "\n".join(values), reported[-1] if reported else None
 
 
-# the variables that value lines set, read here
-def true_in(block, n):
-    true = {int(word[1:]) for word in block.split() if word.startswith("x")}
-    return [v in true for v in range(1, n + 1)]
+# the variables that value lines set, and those that they say nothing of, read here
+def read_values(block, n):
+    said = {int(word.lstrip("-x")): word.startswith("x") for word in block.split() if "x" in word}
+    return [said.get(v, False) for v in range(1, n + 1)], [v for v in range(1, n + 1) if v not in said]
+
+
+# what our evaluator says of the rows of a file, the objective first, under value lines; and what it should say
+def judged(bridge, plan, file, block, goal, fault, unsaid):
+    rows = [(plan[1], "=%d" % goal)] + [(terms, "1") for terms, _, _ in plan[2]]
+    wanted = ["?" if {v for _, _, v in terms} & set(unsaid) else told for terms, told in rows]
+    return bridge.call(file, "judge", block, fault).split(), wanted
 
 
 # what is wrong with a solver's answer, if anything
@@ -106,17 +114,19 @@ def wrong(bridge, plan, text, written, best, fault, block, reported):
     if block is None:
         return "it finds no optimum"
     found = OFFSET.search(written)
-    bits, offset = true_in(block, n), int(found.group(1)) if found else 0
+    (bits, unsaid), offset = read_values(block, n), int(found.group(1)) if found else 0
     if not keeps(rows, bits):
         return "its values break a row"
     if value(objective, bits) != best:
         return "its values give %d, the optimum is %d" % (value(objective, bits), best)
     if reported is not None and reported + offset != best:
         return "it reports %d, with the offset %d; the optimum is %d" % (reported, offset, best)
+    whole = block + "\nv" + "".join(" -x%d" % v for v in unsaid)
     for file, goal in ((text, best), (written, best - offset)):
-        judged = bridge.call(file, "judge", block, fault).split()
-        if judged != ["=%d" % goal] + ["1"] * len(rows):
-            return "of its value lines our evaluator says %s, the objective has %d" % (" ".join(judged), goal)
+        for lines, left in [(block, unsaid)] + ([(whole, [])] if unsaid else []):
+            told, wanted = judged(bridge, plan, file, lines, goal, fault, left)
+            if told != wanted:
+                return "of the rows under its value lines our evaluator says %s, it should be %s" % (" ".join(told), " ".join(wanted))
     return None
 
 
