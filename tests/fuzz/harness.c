@@ -1,7 +1,8 @@
 /* The fuzzing harness: from each input of libFuzzer it makes a file or a table, hands it to every call, and holds what the call answers and leaves against the model and against the other calls.
  *
  * An input is 16 bytes of options and then the file, or what a table is made of. Options: byte 0 the first index, 1 to 6 the lengths of the six columns, 7 flags, 8 to 11 the seed of what is
- * random (assignments, rooms), 12 to 15 a first index where byte 0 asks for any. What is missing is 0.
+ * random (assignments, rooms), 12 to 15 a first index where byte 0 asks for any. What is missing is 0. A file that begins with `v` is blocks of value lines, parted by `|`; then bytes 1 and 2
+ * are the words of both rows, 3 the length before, and what the rows have is random.
  *
  * Environment: OPB_FUZZ_FAULT plants a fault (library.c), OPB_FUZZ_FINDING is where the smallest failing input goes. */
 #include <setjmp.h>
@@ -16,9 +17,9 @@
 /* No input is longer. */
 enum { INPUT = 2048 };
 /* pieces of lent memory; a table has six */
-enum { FILE_LENT = 0, TABLE = 1, FILLED = 7, WORDS = 13, OUT = 14, NORMAL = 15, FILE_AGAIN = 21 };
-enum { COUNT, READ, NORMALISE, EVALUATE, WRITE, LIST, CALLS };
-enum { NUMBERS = 16, WORDS_MOST = 64 };
+enum { FILE_LENT = 0, TABLE = 1, FILLED = 7, WORDS = 13, OUT = 14, NORMAL = 15, FILE_AGAIN = 21, KNOWN = 22 };
+enum { COUNT, READ, NORMALISE, EVALUATE, EVALUATE_KNOWN, WRITE, LIST, VALUES, CALLS };
+enum { NUMBERS = 24, WORDS_MOST = 64 };
 
 typedef struct {
     uint8_t options[OPTIONS];
@@ -51,8 +52,8 @@ static double seconds(void) {
 }
 
 static void print_call(int call) {
-    static const char *const names[CALLS] = {"count", "read", "normalise", "evaluate", "write", "list"};
-    printf("%-10s accepted %llu", names[call], (unsigned long long)answers[call][0]);
+    static const char *const names[CALLS] = {"count", "read", "normalise", "evaluate", "evaluate known", "write", "list", "values"};
+    printf("%-14s accepted %llu", names[call], (unsigned long long)answers[call][0]);
     for (int i = 1; i < NUMBERS; i++)
         if (answers[call][i]) printf(", %d: %llu", i, (unsigned long long)answers[call][i]);
     printf("\n");
@@ -246,12 +247,36 @@ static opb_value check_value(const columns *t, size_t row, const uint64_t *words
     return a;
 }
 
+/* Words that say what is known: as many as there are values, one less, or one more; all known, nearly all, or any. */
+static size_t lend_known(size_t count, const uint64_t **known) {
+    static uint64_t content[WORDS_MOST + 2];
+    uint64_t r = any();
+    if (r % 4 == 0) count = r % 8 || count == 0 ? count + 1 : count - 1;
+    for (size_t i = 0; i < count; i++) content[i] = r / 8 % 3 == 0 ? UINT64_MAX : r / 8 % 3 == 1 ? any() | any() | any() | any() : any();
+    *known = lend(KNOWN, content, count * sizeof *content);
+    return count;
+}
+
+/* A row under an assignment whose variables may be unknown; what is accepted is what all being known gives, but for the ones. */
+static void check_known_value(const columns *t, size_t row, const uint64_t *words, size_t count, opb_value all) {
+    const uint64_t *known;
+    size_t known_count = lend_known(count, &known);
+    opb_value model = model_evaluate_known(t, row, words, count, known, known_count), a = library_evaluate_known(t, row, words, count, known, known_count);
+    note(EVALUATE_KNOWN, a.refusal);
+    check(a.refusal == model.refusal && a.place == model.place, "evaluating what is known, the refusal or place differs");
+    check(a.value == model.value && a.holds == model.holds, "evaluating what is known, a sum, a value or whether a row holds differs");
+    check(a.ones == model.ones, "evaluating what is known, the ones differ");
+    check(a.refusal || (all.refusal == 0 && a.value == all.value && a.holds == all.holds && a.ones <= all.ones), "what is known gives another value than all does");
+    check_kept(KNOWN, 1);
+}
+
 /* every row before and after normalising, and the row that is missing */
 static void check_values(const columns *t, const columns *normal) {
     const uint64_t *words;
     size_t count = assign(t, &words);
     for (size_t row = 0; row <= row_room(t); row++) {
         opb_value a = check_value(t, row, words, count), b = check_value(normal, row, words, count);
+        check_known_value(t, row, words, count, a);
         check(a.refusal == b.refusal && a.holds == b.holds, "normalising changes whether a row holds");
         check(a.holds != 2 || a.value == b.value, "normalising changes an objective's value");
     }
@@ -262,7 +287,7 @@ static void check_values(const columns *t, const columns *normal) {
 static void check_values_alone(const columns *t) {
     const uint64_t *words;
     size_t count = assign(t, &words);
-    for (size_t row = 0; row <= row_room(t); row++) check_value(t, row, words, count);
+    for (size_t row = 0; row <= row_room(t); row++) check_known_value(t, row, words, count, check_value(t, row, words, count));
     check_kept(TABLE, 6);
     check_kept(WORDS, 1);
 }
@@ -505,6 +530,54 @@ static void check_any_table(input *in) {
     check_table(&t, in->rest, in->length, in);
 }
 
+/* ---- blocks of value lines */
+
+/* an assignment, as the model leaves it */
+typedef struct {
+    uint64_t length, values[WORDS_MOST], known[WORDS_MOST];
+    size_t values_length, known_length;
+} assignment;
+
+static void check_block(const uint8_t *content, size_t length, assignment *now) {
+    const uint8_t *block = lend(FILE_LENT, content, length);
+    uint64_t *values = lend(WORDS, now->values, now->values_length * sizeof *values), *known = lend(KNOWN, now->known, now->known_length * sizeof *known);
+    opb_length model = model_values(content, length, now->length, now->values, now->values_length, now->known, now->known_length);
+    opb_length a = library_values(block, length, now->length, values, now->values_length, known, now->known_length);
+    note(VALUES, a.refusal);
+    check(a.refusal == model.refusal, "reading values, the refusal differs");
+    check(a.place == model.place, "reading values, the place differs");
+    check(a.length == model.length, "reading values, the length differs");
+    check(same(values, now->values, now->values_length * sizeof *values), "a value differs");
+    check(same(known, now->known, now->known_length * sizeof *known), "what is known differs");
+    check_kept(FILE_LENT, 1);
+    if (a.refusal == 0) now->length = a.length;
+    note_count(2, a.length);
+}
+
+/* nothing known at first, or anything; a length of any size */
+static assignment first_assignment(const uint8_t *options) {
+    static const uint64_t far[] = {OPB_INDEX_LIMIT, (uint64_t)OPB_INDEX_LIMIT + 1, (uint64_t)OPB_INDEX_LIMIT + 2, UINT64_MAX};
+    assignment a = {.values_length = options[1] % 8 < 6 ? 2 : options[1] / 8, .known_length = options[2] % 8 < 6 ? 2 : options[2] / 8};
+    a.length = options[3] < 200 ? options[3] % 100 : far[options[3] % 4];
+    for (size_t i = 0; i < WORDS_MOST; i++) {
+        a.values[i] = options[4] % 2 ? any() : 0;
+        a.known[i] = options[4] % 4 == 3 ? any() & any() & any() : 0;
+    }
+    return a;
+}
+
+/* The blocks, one after the other, on one assignment. */
+static void check_blocks(const input *in) {
+    assignment a = first_assignment(in->options);
+    size_t at = 0;
+    while (at <= in->length) {
+        const uint8_t *end = at < in->length ? memchr(in->rest + at, '|', in->length - at) : NULL;
+        size_t length = end ? (size_t)(end - in->rest) - at : in->length - at;
+        check_block(in->rest + at, length, &a);
+        at += length + 1;
+    }
+}
+
 /* ---- libFuzzer's entries */
 
 uint32_t first_of(const uint8_t *options) {
@@ -533,6 +606,8 @@ static const char *fails(const uint8_t *data, size_t size) {
     if (in.options[FLAGS] / 4 == ABOVE_LIMIT) check_above_limit(in.first);
     if (in.options[FLAGS] & MAKES_TABLE) {
         check_any_table(&in);
+    } else if (in.length > 0 && in.rest[0] == 'v') {
+        check_blocks(&in);
     } else {
         check_file(&in);
     }

@@ -10,7 +10,8 @@
 
 enum {
     NONE, BOUND_OFF_BY_ONE, LESS_AS_AT_MOST, DROPPED_ROW, DROPPED_REST, MINUS_UNREAD, INDEX_LIMIT_OFF, COUNT_DISAGREES, NEEDED_MADE_UP, REFUSED_AND_FILLED, BEYOND_THE_COUNT, PAST_THE_END,
-    BEFORE_THE_START, ONLY_COPIES, LESS_FOR_AT_MOST, ONES_MADE_UP, FLIP_WITHOUT_NEGATING, OFFSET_FORGOTTEN, OUTPUT_PAST_THE_END, LIST_LENGTH_OFF, FAULTS
+    BEFORE_THE_START, ONLY_COPIES, LESS_FOR_AT_MOST, ONES_MADE_UP, FLIP_WITHOUT_NEGATING, OFFSET_FORGOTTEN, OUTPUT_PAST_THE_END, LIST_LENGTH_OFF,
+    KNOWN_NOT_LOOKED_AT, VALUE_NOT_KNOWN, REFUSED_AND_SET, LENGTH_FORGOTTEN, KNOWN_PAST_THE_END, ZERO_AS_STRING, UNKNOWN_AS_FALSE, FAULTS
 };
 
 static const char *const names[FAULTS] = {
@@ -33,6 +34,13 @@ static const char *const names[FAULTS] = {
     [OFFSET_FORGOTTEN] = "offset_forgotten",           /* write: an objective's offset is taken as 0 */
     [OUTPUT_PAST_THE_END] = "output_past_the_end",     /* write: a byte behind a full output is written */
     [LIST_LENGTH_OFF] = "list_length_off",             /* list: the length needed is one too few */
+    [KNOWN_NOT_LOOKED_AT] = "known_not_looked_at",     /* values: a conflict with what is known is not seen */
+    [VALUE_NOT_KNOWN] = "value_not_known",             /* values: the variables met do not become known */
+    [REFUSED_AND_SET] = "refused_and_set",             /* values: a block refused for its conflict has set a bit */
+    [LENGTH_FORGOTTEN] = "length_forgotten",           /* values: the length is that of the block alone */
+    [KNOWN_PAST_THE_END] = "known_past_the_end",       /* values: the word behind the known words is looked at */
+    [ZERO_AS_STRING] = "zero_as_string",               /* values: `v 0` is a string of one variable */
+    [UNKNOWN_AS_FALSE] = "unknown_as_false",           /* evaluate known: a variable that is not known is false */
 };
 
 static int fault;
@@ -144,6 +152,42 @@ opb_value library_evaluate(const columns *t, size_t row, const uint64_t *words, 
     if (fault == ONES_MADE_UP && words_length > 0) a.ones = (uint64_t)__builtin_popcountll(words[0]);
     return a;
 }
+
+static void look_at_word(const volatile uint64_t *word) {
+    (void)*word;
+}
+
+opb_value library_evaluate_known(const columns *t, size_t row, const uint64_t *values, size_t values_length, const uint64_t *known, size_t known_length) {
+    uint64_t meant[TEXT / 8];
+    opb_value a = opb_evaluate_known(SPREAD(t), row, values, values_length, known, known_length);
+    if (fault != UNKNOWN_AS_FALSE || a.refusal != OPB_REFUSED_ASSIGNMENT || values_length > known_length) return a;
+    for (size_t i = 0; i < values_length; i++) meant[i] = values[i] & known[i];
+    return opb_evaluate(SPREAD(t), row, meant, values_length);
+}
+
+/* ---- value lines */
+
+/* `v 0` for a string that says the same as a string of one false variable */
+static int is_just_zero(const uint8_t *block, size_t length) {
+    return length == 3 && memcmp(block, "v 0", 3) == 0;
+}
+
+opb_length library_values(const uint8_t *block, size_t block_length, uint64_t length, uint64_t *values, size_t values_length, uint64_t *known, size_t known_length) {
+    static uint64_t before[TEXT / 8];
+    size_t size = known_length * sizeof *known;
+    if (fault == KNOWN_PAST_THE_END && block_length > 3) look_at_word(known + known_length);
+    if (known_length) memcpy(before, known, size);
+    if (fault == KNOWN_NOT_LOOKED_AT && known_length) memset(known, 0, size);
+    if (fault == ZERO_AS_STRING && is_just_zero(block, block_length) && length < OPB_INDEX_LIMIT) length++;
+    opb_length a = opb_values(block, block_length, fault == LENGTH_FORGOTTEN ? 0 : length, values, values_length, known, known_length);
+    if (fault == KNOWN_NOT_LOOKED_AT)
+        for (size_t i = 0; i < known_length; i++) known[i] |= before[i];
+    if (fault == VALUE_NOT_KNOWN && known_length) memcpy(known, before, size);
+    if (fault == REFUSED_AND_SET && a.refusal == OPB_REFUSED_CONFLICT && values_length) values[0] ^= 1;
+    return a;
+}
+
+/* ---- texts */
 
 /* the literals of "at most" rows that lie in their column, negated, so that the library's own negation undoes it */
 static void negate(const columns *t, size_t row, uint32_t *literals) {

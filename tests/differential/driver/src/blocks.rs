@@ -4,8 +4,11 @@ use crate::random::Random;
 use crate::table::{Case, ValuesCase};
 use crate::values::{Rows, GREATEST};
 
-/// The telling bytes: digits that make strings and ones that do not, each sign, the letters of both forms, blanks and both bytes of a line ending
-pub const BYTES: [u8; 11] = [b'0', b'1', b'2', b'-', b'+', b'x', b'~', b' ', b'\n', b'\r', b'v'];
+/// The telling bytes: digits that make strings and one that does not, a sign, the letters of both forms, a blank and a line ending
+const BYTES: [u8; 8] = [b'0', b'1', b'2', b'-', b'x', b' ', b'\n', b'v'];
+
+/// With the other signs and the other byte of a line ending
+const MORE: [u8; 11] = [b'0', b'1', b'2', b'-', b'x', b' ', b'\n', b'v', b'+', b'~', b'\r'];
 
 /// What damages a block: the telling bytes, other white space, a letter, and characters beyond ASCII, white space among them
 const OTHERS: [&[u8]; 14] = [b"9", b"\t", b"\x0b", b"\x0c", b"a", b"X", b"o", b";", b"\0", b"\xC2\xA0", b"\xC2\x85", b"\xE2\x80\x83", b"\xC3\xA9", b"\xFF"];
@@ -21,20 +24,20 @@ fn case(before: Rows, blocks: Vec<Vec<u8>>) -> Case {
     Case::Values(ValuesCase { before, blocks, great: false })
 }
 
-/// `v` and each string of at most `longest` telling bytes, the shortest first
-fn blocks(longest: u32) -> impl Iterator<Item = Vec<u8>> {
-    let spelt = |length: u32, code: usize| (0..length).map(move |at| BYTES[code / BYTES.len().pow(at) % BYTES.len()]);
-    (0..=longest).flat_map(move |length| (0..BYTES.len().pow(length)).map(move |code| std::iter::once(b'v').chain(spelt(length, code)).collect()))
+/// `v` and each string of at most `longest` of the bytes, the shortest first
+fn blocks(bytes: &'static [u8], longest: u32) -> impl Iterator<Item = Vec<u8>> {
+    let spelt = move |length: u32, code: usize| (0..length).map(move |at| bytes[code / bytes.len().pow(at) % bytes.len()]);
+    (0..=longest).flat_map(move |length| (0..bytes.len().pow(length)).map(move |code| std::iter::once(b'v').chain(spelt(length, code)).collect()))
 }
 
-/// Assignments that each block of up to four telling bytes is read on top of
+/// Assignments that a block is read on top of
 const FIRSTS: [&str; 4] = ["v x1", "v ~x1 x2", "v 01", "v x2 -x12"];
 
-/// Every block of `v` and up to six telling bytes; every one of up to four on top of a few assignments; every two of up to two, one after the other
+/// Every block of `v` and up to six telling bytes; every one of up to four of more of them; every one of up to four on top of a few assignments; every two of up to two, one after the other
 pub fn exhaustive() -> impl Iterator<Item = Case> {
-    let alone = blocks(6).map(|block| case(nothing(), vec![block]));
-    let second = FIRSTS.iter().flat_map(|first| blocks(4).map(move |block| case(nothing(), vec![first.as_bytes().to_vec(), block])));
-    let pairs = blocks(2).flat_map(|first| blocks(2).map(move |second| case(nothing(), vec![first.clone(), second])));
+    let alone = blocks(&BYTES, 6).chain(blocks(&MORE, 4)).map(|block| case(nothing(), vec![block]));
+    let second = FIRSTS.iter().flat_map(|first| blocks(&BYTES, 4).map(move |block| case(nothing(), vec![first.as_bytes().to_vec(), block])));
+    let pairs = blocks(&MORE, 2).flat_map(|first| blocks(&MORE, 2).map(move |second| case(nothing(), vec![first.clone(), second])));
     alone.chain(second).chain(pairs).chain(great())
 }
 
@@ -147,7 +150,7 @@ fn variable(random: &mut Random, style: Style, next: &mut u64) -> u64 {
 
 fn damage(block: &mut Vec<u8>, random: &mut Random) {
     let at = random.below(block.len() as u64 + 1) as usize;
-    let bytes = if random.once_in(4) { random.of(&OTHERS).to_vec() } else { vec![random.of(&BYTES)] };
+    let bytes = if random.once_in(4) { random.of(&OTHERS).to_vec() } else { vec![random.of(&MORE)] };
     match random.below(5) {
         0 | 1 => drop(block.splice(at..at, bytes)),
         2 if at < block.len() => drop(block.splice(at..=at, bytes)),

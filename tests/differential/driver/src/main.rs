@@ -49,13 +49,13 @@ fn asked() -> Asked {
     asked
 }
 
-/// Every case of a run: the exhaustive ones, then so many random ones, three in four to be read; then blocks of value lines, every short one and half as many random cases
+/// Every case of a run: the exhaustive ones, then so many random ones, three in four to be read; then blocks of value lines, every short one and a quarter as many random cases
 fn cases(seed: u64, count: usize) -> impl Iterator<Item = Case> {
     let long = [1_073_741_823, 1_073_741_824, 4_294_967_296].map(Case::Long);
     let mut random = Random::new(seed);
     let others = (0..count).map(move |_| if random.once_in(4) { rows::random(&mut random) } else { files::random(&mut random) });
     let mut lines = Random::new(seed);
-    let values = (0..count / 2).map(move |_| blocks::random(&mut lines));
+    let values = (0..count / 4).map(move |_| blocks::random(&mut lines));
     long.into_iter().chain(files::exhaustive()).chain(rows::exhaustive()).chain(others).chain(blocks::exhaustive()).chain(values)
 }
 
