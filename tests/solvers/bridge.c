@@ -18,7 +18,6 @@
 #define BYTES (1 << 20)
 #define ROWS 4096
 #define TERMS 65536
-#define WORDS 64
 
 typedef struct {
     uint8_t kinds[ROWS];
@@ -31,7 +30,6 @@ typedef struct {
 static uint8_t file[BYTES], out[BYTES];
 static size_t length;
 static table given, normal;
-static uint64_t values[WORDS], known[WORDS];
 
 static int refused(const char *call, uint8_t number, uint64_t place) {
     if (number != OPB_ACCEPTED) fprintf(stderr, "%s: refusal %d, place %" PRIu64 "\n", call, number, place);
@@ -78,39 +76,22 @@ static int rewrite(uint8_t plain, const char *fault) {
     return 0;
 }
 
-/* The value lines: nothing is lent at first, then the words that the refusal asks for; nothing was changed by the refused call. */
-static size_t read_block(const char *block) {
-    opb_length a = opb_values((const uint8_t *)block, strlen(block), 0, values, 0, known, 0);
-    size_t words = a.refusal == OPB_REFUSED_ASSIGNMENT && a.place <= WORDS ? a.place : 0;
-    a = opb_values((const uint8_t *)block, strlen(block), 0, values, words, known, words);
-    if (refused("opb_values", a.refusal, a.place)) exit(1);
-    return words;
-}
-
-static int judge_row(size_t row, size_t words) {
+static int judge(const char *values) {
     table *t = &given;
-    opb_value a = opb_evaluate_known(t->kinds, t->rows, t->firsts, t->rows, t->counts, t->rows, t->bounds, t->rows, t->weights, t->terms, t->literals, t->terms,
-                                     row, values, words, known, words);
-    opb_value b = opb_evaluate(t->kinds, t->rows, t->firsts, t->rows, t->counts, t->rows, t->bounds, t->rows, t->weights, t->terms, t->literals, t->terms, row, values, words);
-    if (a.refusal == OPB_REFUSED_ASSIGNMENT) {
-        printf("?\n");
-        return 0;
-    }
-    if (refused("opb_evaluate_known", a.refusal, a.place)) return 1;
-    if (b.refusal || a.value != b.value || a.holds != b.holds) return 1;
-    if (t->kinds[row] == OPB_OBJECTIVE)
-        printf("=%" PRId64 "\n", a.value);
-    else
-        printf("%d\n", a.holds);
-    return 0;
-}
-
-static int judge(char *block, const char *fault) {
+    uint64_t words[TERMS / 64] = {0};
     if (read_plan()) return 1;
-    for (char *at = block; strcmp(fault, "sign") == 0 && (at = strstr(at, "-x")); at++) *at = ' ';
-    size_t words = read_block(block);
-    for (size_t row = 0; row < given.rows; row++)
-        if (given.kinds[row] != OPB_COMMENT && judge_row(row, words)) return 1;
+    for (size_t v = 0; values[v] != 0 && v < TERMS; v++)
+        if (values[v] == '1') words[v / 64] |= UINT64_C(1) << (v % 64);
+    for (size_t row = 0; row < t->rows; row++) {
+        if (t->kinds[row] == OPB_COMMENT) continue;
+        opb_value a = opb_evaluate(t->kinds, t->rows, t->firsts, t->rows, t->counts, t->rows, t->bounds, t->rows, t->weights, t->terms, t->literals, t->terms,
+                                   row, words, (strlen(values) + 63) / 64);
+        if (refused("opb_evaluate", a.refusal, a.place)) return 1;
+        if (t->kinds[row] == OPB_OBJECTIVE)
+            printf("=%" PRId64 "\n", a.value);
+        else
+            printf("%d\n", a.holds);
+    }
     return 0;
 }
 
