@@ -1,7 +1,6 @@
 # Changes one digit of every case of a list (tests/differential/README.md, "The lists") that has the word `what`, and prints the list:
 #   flag   read: whether the Rust accepts        kind, bound   read: of the first row
 #   term   read: the code of the last term, where the last row has terms        byte   write: the last byte written
-#   after  values: the last variable's value afterwards        longer   values: one variable more afterwards        taken   values: whether the Rust accepts
 # Into the file `wanted` goes what a replay must say of it: that exactly these cases differ.
 
 function other(word,    digit) {
@@ -21,20 +20,10 @@ function change_read(    flag, rows, at, row, terms) {
   return terms > 0
 }
 
-function change_values(    last) {
-  if (what == "taken") { $3 = $3 == "-" ? "." : "-"; return 1 }
-  if ($3 == "-") return 0
-  if (what == "longer") { $3 = $3 "_"; return 1 }
-  last = substr($3, length($3))
-  if (last == ".") return 0
-  $3 = substr($3, 1, length($3) - 1) (last == "1" ? "0" : "1")
-  return 1
-}
-
 NR == 1 { cases = $1; print; next }
 
 {
-  changed = sort == "values" ? change_values() : what == "byte" ? sub(/0a$/, "0b") : change_read()
+  changed = what == "byte" ? sub(/0a$/, "0b") : change_read()
   if (changed) { differing++; printf "%s: case %d differs\n", sort, NR - 1 > wanted }
   print
 }

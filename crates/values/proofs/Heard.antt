@@ -17,6 +17,7 @@ use Rattle.definitions.specs.Values.{Item, untagged, token, wholeNumber, litera
 use Rattle.values.specs.Said.{tokenSays, formBy}
 use Rattle.values.specs.Flat.{Placed, placed, codeIn, saidBy, stopOf}
 use Rattle.values.specs.Windows.{conflictAt, PlacesBelow}
+use Rattle.values.proofs.Split.{conflict-here, conflict-later}
 
 -- ---- a token is refused with 21 or 5, never with 0
 
@@ -161,15 +162,6 @@ module _ (ws ks : List ℕ) where
   -- ---- the first conflict, and what is left without one
 
   -- one literal of the list
-  conflict-here : (x : Placed) (xs : List Placed) (heard : List ℕ) (end : ℕ) → conflicts ws ks heard (x .code) ≡ true → conflictAt ws ks heard end (x ∷ xs) ≡ x .place
-  unfolding conflictAt
-  conflict-here x xs heard end e = rw (e, conflictAt)
-
-  conflict-later : (x : Placed) (xs : List Placed) (heard : List ℕ) (end : ℕ) → conflicts ws ks heard (x .code) ≡ false
-      → conflictAt ws ks heard end (x ∷ xs) ≡ conflictAt ws ks (heard ++ (x .code ∷ [])) end xs
-  unfolding conflictAt
-  conflict-later x xs heard end e = rw (e, conflictAt)
-
   flatly-here : (x : Placed) (xs : List Placed) (heard : List ℕ) (stop : Refusal) → conflicts ws ks heard (x .code) ≡ true
       → flatly ws ks heard (x ∷ xs) stop ≡ refused (refusal 22 (x .place))
   unfolding flatly
@@ -190,9 +182,9 @@ module _ (ws ks : List ℕ) where
           → (conflictAt ws ks (heard ++ (x .code ∷ [])) (stop .place) xs < stop .place
           → flatly ws ks (heard ++ (x .code ∷ [])) xs stop ≡ refused (refusal 22 (conflictAt ws ks (heard ++ (x .code ∷ [])) (stop .place) xs)))
           → flatly ws ks heard (x ∷ xs) stop ≡ refused (refusal 22 (conflictAt ws ks heard (stop .place) (x ∷ xs)))
-      by true e f = flatly-here x xs heard stop e ∙ ap (λ (p : ℕ). refused (refusal 22 p)) (sym (conflict-here x xs heard (stop .place) e))
+      by true e f = flatly-here x xs heard stop e ∙ ap (λ (p : ℕ). refused (refusal 22 p)) (sym (conflict-here ws ks heard (stop .place) x xs e))
       by false e f =
-          let q = conflict-later x xs heard (stop .place) e in
+          let q = conflict-later ws ks heard (stop .place) x xs e in
           flatly-later x xs heard stop e ∙ f (rw q at h) ∙ ap (λ (p : ℕ). refused (refusal 22 p)) (sym q)
 
   pub flatly-fine : (stop : Refusal) (xs : List Placed) (heard : List ℕ) → PlacesBelow (stop .place) xs
@@ -205,7 +197,7 @@ module _ (ws ks : List ℕ) where
           → (stop .place ≤ conflictAt ws ks (heard ++ (x .code ∷ [])) (stop .place) xs
           → flatly ws ks (heard ++ (x .code ∷ [])) xs stop ≡ stopped ((heard ++ (x .code ∷ [])) ++ map codeIn xs) stop)
           → flatly ws ks heard (x ∷ xs) stop ≡ stopped (heard ++ map codeIn (x ∷ xs)) stop
-      by true e f = let q = conflict-here x xs heard (stop .place) e in let u : x .place < stop .place = a .0 in absurd (omega arith)
+      by true e f = let q = conflict-here ws ks heard (stop .place) x xs e in let u : x .place < stop .place = a .0 in absurd (omega arith)
       by false e f =
-          let q = conflict-later x xs heard (stop .place) e in
+          let q = conflict-later ws ks heard (stop .place) x xs e in
           flatly-later x xs heard stop e ∙ f (rw q at h) ∙ ap (λ (l : List ℕ). stopped l stop) (append-snoc heard (x .code) (map codeIn xs))

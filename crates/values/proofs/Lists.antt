@@ -6,10 +6,11 @@ use mathlib.Core.List.{List, [], _∷_, _++_}
 use native.Mathlib.Omega.{arith}
 use native.Mathlib.Numerals.{add-one}
 use lib.Dec.{eqb}
-use lib.ListN.{length, getD, take, length-set}
+use lib.ListN.{length, getD, take}
 use lib.Seq.{take-suc, length-take-le}
 use Rattle.definitions.specs.Literal.{codeOf, indexOf, negated}
 use Rattle.definitions.specs.Values.{zeroDigit, bitMade, valued, marked, lengthAfter, appended}
+use Rattle.values.proofs.Bits.{length-made}
 
 pub valued-append : (xs ys ws : List ℕ) → valued (xs ++ ys) ws ≡ valued ys (valued xs ws)
 unfolding valued
@@ -27,10 +28,6 @@ length-after-append n [] ys = refl
 length-after-append n (c ∷ xs) ys = length-after-append (max n (indexOf c + 1)) xs ys
 
 -- no row changes its length
-pub length-made : (b : Bool) (v : ℕ) (ws : List ℕ) → length (bitMade b v ws) ≡ length ws
-unfolding bitMade
-length-made b v ws = simp length-set
-
 pub length-valued : (cs ws : List ℕ) → length (valued cs ws) ≡ length ws
 unfolding valued
 length-valued [] ws = refl

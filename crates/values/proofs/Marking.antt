@@ -19,7 +19,8 @@ use Rattle.values.specs.declared.conflicts.Met.{Met}
 use Rattle.values.specs.declared.conflicts.Met.the-variants as met
 use Rattle.values.proofs.Bits.{bit-made, length-made}
 use Rattle.values.proofs.Split.{conflict-here, conflict-later, only-in, only-out, opposite-index, among-snoc, Ascending, conflict-from, conflict-within, window-in, window-before, window-behind, least-here, least-on, least-is}
-use Rattle.values.proofs.Places.{orderly-from, step-ends, step-refuses, step-says}
+use Rattle.values.proofs.Places.{orderly-from}
+use Rattle.values.proofs.Steps.{ends-step, refuses-step, says-step}
 
 -- the mark of each literal of the window says whether it was heard
 abbrev pub Marks : ℕ → List ℕ → List ℕ → Type 0
@@ -239,20 +240,20 @@ module _ (named : Bool) (ws ks block : List ℕ) (end base : ℕ) where
     rest = saidBy named (itemsFrom (spotOf opens) at (drop at block))
 
     pub walk-ends : ends ≡ stepOf named (itemsFrom (spotOf opens) at (drop at block)) → w ≡ windowOf ws ks end base all
-    walk-ends e = marking-end ws ks end base all marks w (rw (step-ends named (itemsFrom (spotOf opens) at (drop at block)) e) at (k .marking))
+    walk-ends e = marking-end ws ks end base all marks w (rw (ends-step named 0 (itemsFrom (spotOf opens) at (drop at block)) (sym e) .0) at (k .marking))
 
     pub walk-refuses : (n p : ℕ) → refuses n p ≡ stepOf named (itemsFrom (spotOf opens) at (drop at block)) → w ≡ windowOf ws ks end base all
-    walk-refuses n p e = marking-end ws ks end base all marks w (rw (step-refuses named (itemsFrom (spotOf opens) at (drop at block)) n p e) at (k .marking))
+    walk-refuses n p e = marking-end ws ks end base all marks w (rw (refuses-step named 0 (itemsFrom (spotOf opens) at (drop at block)) n p (sym e) .0) at (k .marking))
 
     pub walk-nothing : (p e : ℕ) → e ≤ length block → says p [] (onFrom block e) ≡ stepOf named (itemsFrom (spotOf opens) at (drop at block))
         → Walk named ws ks block end base marks w e false
     walk-nothing p e h q =
-        record { inside = h; marking = rw (step-says named (itemsFrom (spotOf opens) at (drop at block)) p [] (onFrom block e) q) at (k .marking) }
+        record { inside = h; marking = rw (says-step named 0 (itemsFrom (spotOf opens) at (drop at block)) p [] (onFrom block e) (sym q) .0) at (k .marking) }
 
     walk-says : (p e c : ℕ) → e ≤ length block → says p (c ∷ []) (onFrom block e) ≡ stepOf named (itemsFrom (spotOf opens) at (drop at block))
         → Walk named ws ks block end base (markedBy (meetOf ws ks marks base c) base c marks) (noted (meetOf ws ks marks base c) p w) e false
     walk-says p e c h q =
-        let t = step-says named (itemsFrom (spotOf opens) at (drop at block)) p (c ∷ []) (onFrom block e) q in
+        let t = says-step named 0 (itemsFrom (spotOf opens) at (drop at block)) p (c ∷ []) (onFrom block e) (sym q) .0 in
         let a : Ascending at (placed p c ∷ saidBy named (onFrom block e)) = rw t at (orderly-from named (spotOf opens) block at (k .inside) .ascending) in
         record { inside = h; marking = marking-step ws ks end base all marks w p c (saidBy named (onFrom block e)) (rw t at (k .marking)) (a .1) }
 

@@ -1,5 +1,4 @@
--- The literals that a block says, in order: their places ascend, and lie before the place where the walk stops; a token says one literal at most, of a variable within the limit. And what a step
--- of the walk says of them.
+-- The literals that a block says, in order: their places ascend, and lie before the place where the walk stops; a token says one literal at most, of a variable within the limit.
 use Prim.Native.Nat.{ℕ, _+_, _-_, _≤_}
 use mathlib.Core.Path.{_≡_, refl}
 use mathlib.Core.Bool.{Bool, true, false, cond, _&&_, _||_}
@@ -16,7 +15,6 @@ use Rattle.definitions.specs.Table.{andThen}
 use Rattle.definitions.specs.Values.{Item, untagged, token, Spot, front, between, inside, itemsFrom, letterV, isWhite, isSolid, frontOf, wholeNumber, literalFor, signedFor, signedToken, namedVariable, xToken}
 use Rattle.values.specs.Said.{tokenSays}
 use Rattle.values.specs.Flat.{Placed, placed, saidBy, stopOf}
-use Rattle.values.specs.Steps.{ends, refuses, says, stepBy, stepOf}
 use Rattle.values.specs.Windows.{PlacesBelow}
 use Rattle.values.proofs.Split.{Ascending, ascending-from, Known}
 
@@ -200,41 +198,3 @@ orderly named end from inside (b ∷ s) e =
 -- of a block from an offset on
 pub orderly-from : (named : Bool) (w : Spot) (block : List ℕ) (from : ℕ) → from ≤ length block → OrderlyAt named (length block) from (itemsFrom w from (drop from block))
 orderly-from named w block from h = orderly named (length block) from w (drop from block) (omega (arith, length-drop from block))
-
--- ---- what a step of the walk says
-
-no-step {ℓ} : {A : Type ℓ} → _≡_ {A = ℕ} 0 1 → A
-no-step e = absurd (omega arith)
-
--- nothing more
-pub step-ends : (named : Bool) (is : List Item) → ends ≡ stepOf named is → saidBy named is ≡ []
-unfolding saidBy
-step-ends named [] e = refl
-step-ends named (untagged p ∷ is) e = refl
-step-ends named (token p s ∷ is) e = pick (tokenSays named s) e
-  where
-    pick : (x : Checked (List ℕ)) → ends ≡ stepBy p is x → _≡_ {A = List Placed} (elim x [ refuse d ↦ [] | accept cs ↦ map (placed p) cs ++ saidBy named is ]) []
-    pick (refuse d) q = refl
-    pick (accept cs) q = no-step (cc)
-
-pub step-refuses : (named : Bool) (is : List Item) (n q : ℕ) → refuses n q ≡ stepOf named is → saidBy named is ≡ []
-unfolding saidBy
-step-refuses named [] n q e = refl
-step-refuses named (untagged p ∷ is) n q e = refl
-step-refuses named (token p s ∷ is) n q e = pick (tokenSays named s) e
-  where
-    pick : (x : Checked (List ℕ)) → refuses n q ≡ stepBy p is x → _≡_ {A = List Placed} (elim x [ refuse d ↦ [] | accept cs ↦ map (placed p) cs ++ saidBy named is ]) []
-    pick (refuse d) r = refl
-    pick (accept cs) r = no-step (cc)
-
-pub step-says : (named : Bool) (is : List Item) (q : ℕ) (ds : List ℕ) (js : List Item) → says q ds js ≡ stepOf named is → saidBy named is ≡ map (placed q) ds ++ saidBy named js
-unfolding saidBy
-step-says named [] q ds js e = no-step (cc)
-step-says named (untagged p ∷ is) q ds js e = no-step (cc)
-step-says named (token p s ∷ is) q ds js e = pick (tokenSays named s) e
-  where
-    pick : (x : Checked (List ℕ)) → says q ds js ≡ stepBy p is x → _≡_ {A = List Placed}
-        (elim x [ refuse d ↦ [] | accept cs ↦ map (placed p) cs ++ saidBy named is ])
-        (map (placed q) ds ++ saidBy named js)
-    pick (refuse d) r = no-step (cc)
-    pick (accept cs) r = let a : p ≡ q = cc in let b : cs ≡ ds = cc in let d : is ≡ js = cc in rw (a, b, d)

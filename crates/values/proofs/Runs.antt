@@ -1,11 +1,11 @@
 -- Runs of bytes at the front, passed one by one: one law for the loops of `white_run`, `solid_run` and `bit_run`, over any test.
 use Prim.Native.Nat.{ℕ, suc, _+_, _≤_, _<_}
 use mathlib.Core.Path.{_≡_, refl, ap, sym, _∙_}
-use mathlib.Core.Bool.{Bool, true, false}
+use mathlib.Core.Bool.{Bool, true, false, _||_}
 use mathlib.Core.List.{List, [], _∷_}
 use native.Mathlib.Omega.{arith}
 use native.Mathlib.Numerals.{add-one}
-use borrow.Author.Tests.{eq-eqb, ne-eqb}
+use lib.Dec.{eqb}
 use lib.ListN.{length, getD, take, drop, drop-of-length-le}
 use lib.Seq.{drop-cons}
 use Rattle.definitions.specs.Values.{frontOf, among}
@@ -64,27 +64,32 @@ module _ (t : ℕ → Bool) (s : List ℕ) (i : ℕ) (p : Passed t s i) where
         rw (drop-cons s i 0 h, front-more t (getD s i 0) (drop (suc i) s) e) in
         rw add-one (record { within = h; count = omega (arith, p .count) })
 
--- ---- a number that is not among the first i, for the loop of `has_x`
+-- ---- a number that is sought among the first i, for the loop of `has_x`
 
-pub record NotYet (n : ℕ) (s : List ℕ) (i : ℕ) : Type 0 where
+pub record Sought (n : ℕ) (s : List ℕ) (i : ℕ) (found : Bool) : Type 0 where
   pub within : i ≤ length s
-  pub later : among n s ≡ among n (drop i s)
+  pub later : among n s ≡ (found || among n (drop i s))
 
-pub not-yet : (n : ℕ) (s : List ℕ) → NotYet n s 0
-not-yet n s = record { within = omega arith; later = refl }
+pub sought-none : (n : ℕ) (s : List ℕ) → Sought n s 0 false
+sought-none n s = record { within = omega arith; later = refl }
 
-module _ (n : ℕ) (s : List ℕ) (i : ℕ) (p : NotYet n s i) where
-  pub never-met : length s ≤ i → false ≡ among n s
+or-assoc : (a b c : Bool) → (a || (b || c)) ≡ ((a || b) || c)
+or-assoc true b c = refl
+or-assoc false b c = refl
+
+or-false : (a : Bool) → (a || false) ≡ a
+or-false true = refl
+or-false false = refl
+
+module _ (n : ℕ) (s : List ℕ) (i : ℕ) (found : Bool) (p : Sought n s i found) where
+  pub sought-all : length s ≤ i → found ≡ among n s
   unfolding among
-  never-met h = sym (p .later ∙ rw (drop-of-length-le s h))
+  sought-all h =
+      let z : among n (drop i s) ≡ false = rw (drop-of-length-le s h) in
+      sym (p .later ∙ ap (λ (b : Bool). found || b) z ∙ or-false found)
 
-  module _ (h : i < length s) where
-    pub number-met : getD s i 0 ≡ n → true ≡ among n s
-    unfolding among
-    number-met e = sym (p .later ∙ rw (drop-cons s i 0 h, among, eq-eqb (getD s i 0) n e))
-
-    pub not-met : (getD s i 0 ≡ n → ⊥) → NotYet n s (i + 1)
-    unfolding among
-    not-met e =
-        let z : among n (drop i s) ≡ among n (drop (suc i) s) = rw (drop-cons s i 0 h, among, ne-eqb (getD s i 0) n e) in
-        rw add-one (record { within = h; later = p .later ∙ z })
+  pub sought-more : i < length s → Sought n s (i + 1) (found || eqb (getD s i 0) n)
+  unfolding among
+  sought-more h =
+      let z : among n (drop i s) ≡ (eqb (getD s i 0) n || among n (drop (suc i) s)) = rw (drop-cons s i 0 h, among) in
+      rw add-one (record { within = h; later = p .later ∙ ap (λ (b : Bool). found || b) z ∙ or-assoc found (eqb (getD s i 0) n) (among n (drop (suc i) s)) })

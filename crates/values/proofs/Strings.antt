@@ -13,6 +13,7 @@ use lib.Seq.{drop-cons, take-all, length-take-le}
 use Rattle.definitions.specs.Literal.{codeOf, indexOf, opposite}
 use Rattle.definitions.specs.Meaning.{isTrue, assigned, isKnown}
 use Rattle.definitions.specs.Values.{zeroDigit, among, appended, conflicts, anyConflict, valued, marked}
+use Rattle.values.proofs.Split.{opposite-index}
 use Rattle.values.proofs.Lists.{index-of-code, appended-next, valued-append, marked-append, length-valued, length-marked}
 
 -- ---- the room that is left
@@ -58,10 +59,6 @@ module _ (ws ks : List ℕ) (n : ℕ) (s : List ℕ) where
         }
 
 -- ---- no literal of a string is the opposite of one before it
-
-pub opposite-index : (c : ℕ) → indexOf (opposite c) ≡ indexOf c
-unfolding opposite
-opposite-index c = omega arith
 
 pub among-appended : (n : ℕ) (s : List ℕ) (c : ℕ) → n + length s ≤ indexOf c → among c (appended n s) ≡ false
 unfolding among appended

@@ -60,14 +60,14 @@ fn bit_run(s: &[u8]) -> usize
 fn has_x(s: &[u8]) -> bool
     ensures { λ r. ⌜ r ≡ among letterX (now (s .entry)) ⌝ }
 {
+    let mut found = false;
     let mut i: usize = 0;
     while i < s.len() {
-        if s[i] == b'x' {
-            return true;
-        }
+        let b = s[i];
+        found = found | (b == b'x');
         i += 1;
     }
-    false
+    found
 }
 
 // Whether all that stands there, trimmed, is zeros and ones alone, but not just `0`.

@@ -65,15 +65,16 @@ fn read_literals(
     let found = survey::survey(block, named, kept);
     let end = found.place;
     let conflict = conflicts::first_conflict(block, named, end, values, known);
+    let words = words_for(found.length);
+    let enough = has_words(words, values, known);
     if conflict < end {
         return refused(22, conflict as u64);
     }
     if found.number != 0 {
         return refused(found.number, end as u64);
     }
-    let needed = words_for(found.length);
-    if !has_words(needed, values, known) {
-        return refused(12, needed);
+    if !enough {
+        return refused(12, words);
     }
     settle::settle(block, named, values, known);
     ValuesRead::Length(found.length)

@@ -43,22 +43,28 @@ module _ (c : tie.After-first-conflict) where
   abbrev begun : tie.After-survey
   begun = c .before .before .before
 
--- nothing was refused, and no conflict was found
 module _ (c : tie.After-has-words) where
   abbrev counted : tie.After-words-for
   counted = c .before .before .before
 
   abbrev past : tie.After-first-conflict
-  past = counted .before .before .before .before
+  past = counted .before
 
-  all : Heard (text (begun past)) (kept (begun past)) (ws (begun past)) (ks (begun past)) ≡ accepted (map codeIn (saidBy (named (begun past)) (itemsFrom front 0 (text (begun past)))))
+-- no conflict was found, and nothing was refused
+module _ (c : tie.Else2) where
+  abbrev asked : tie.After-has-words
+  asked = c .before .before .before
+
+  abbrev first : tie.After-survey
+  first = begun (past asked)
+
+  all : Heard (text first) (kept first) (ws first) (ks first) ≡ accepted (map codeIn (saidBy (named first) (itemsFrom front 0 (text first))))
   all =
-      let b = begun past in
-      found-all (text b) (named b) _ _ _ (form b) _ (b .survey .ensures) _ (past .first-conflict .ensures) (omega (arith, counted .before .before .before .if1 .left))
-      (counted .before .if2 .left)
+      found-all (text first) (named first) _ _ _ (form first) _ (first .survey .ensures) _ (past asked .first-conflict .ensures)
+      (omega (arith, c .before .before .if1 .left)) (c .if2 .left)
 
-  long : begun past .survey .result .length ≡ lengthAfter (kept (begun past)) (map codeIn (saidBy (named (begun past)) (itemsFrom front 0 (text (begun past)))))
-  long = let b = begun past in found-length (text b) (named b) _ (ws b) (ks b) (form b) _ (b .survey .ensures)
+  long : first .survey .result .length ≡ lengthAfter (kept first) (map codeIn (saidBy (named first) (itemsFrom front 0 (text first))))
+  long = found-length (text first) (named first) _ (ws first) (ks first) (form first) _ (first .survey .ensures)
 
 survey-requires : tie.Need-survey-requires
 survey-requires c κs = search needs
@@ -67,6 +73,12 @@ first-conflict-requires : tie.Need-first-conflict-requires
 first-conflict-requires c κs =
     let b = c .before .before in
     found-below _ _ _ (ws b) (ks b) (form b) _ (b .survey .ensures)
+
+words-for-requires : tie.Need-words-for-requires
+words-for-requires c κs = search needs
+
+has-words-requires : tie.Need-has-words-requires
+has-words-requires c κs = search needs
 
 refused-requires : tie.Need-refused-requires
 refused-requires c κs = search needs
@@ -79,7 +91,7 @@ same-length-2 c = search needs
 
 returns : tie.Need-returns
 returns c =
-    let d = c .before .before in
+    let d = past (c .before .before) in
     let b = begun d in
     read-refused _ _ _ _ (some b) _ _ _ (found-conflict _ (named b) _ _ _ (form b) _ (b .survey .ensures) _ (d .first-conflict .ensures) (c .before .if1 .taken)) (c .refused .ensures)
 
@@ -94,16 +106,11 @@ same-length-4 c = search needs
 
 returns-2 : tie.Need-returns-2
 returns-2 c =
-    let d = c .before .before .before .before in
+    let e = c .before .before .before in
+    let d = past (e .before) in
     let b = begun d in
     read-refused _ _ _ _ (some b) _ _ _
-    (found-stop _ (named b) _ _ _ (form b) _ (b .survey .ensures) _ (d .first-conflict .ensures) (omega (arith, c .before .before .before .if1 .left)) (c .before .if2 .taken)) (c .refused2 .ensures)
-
-words-for-requires : tie.Need-words-for-requires
-words-for-requires c κs = search needs
-
-has-words-requires : tie.Need-has-words-requires
-has-words-requires c κs = search needs
+    (found-stop _ (named b) _ _ _ (form b) _ (b .survey .ensures) _ (d .first-conflict .ensures) (omega (arith, e .if1 .left)) (c .before .if2 .taken)) (c .refused2 .ensures)
 
 refused-requires-3 : tie.Need-refused-requires-3
 refused-requires-3 c κs = search needs
@@ -116,8 +123,9 @@ same-length-6 c = search needs
 
 returns-3 : tie.Need-returns-3
 returns-3 c =
-    let h = c .before .before in
-    read-short _ _ _ _ (some (begun (past h))) _ (all h) _ _ (long h) (counted h .words-for .ensures) _ (sym (h .has-words .ensures) ∙ was-false _ (c .before .if3 .taken)) (c .refused3 .ensures)
+    let e = c .before .before in
+    let h = asked e in
+    read-short _ _ _ _ (some (first e)) _ (all e) _ _ (long e) (counted h .words-for .ensures) _ (sym (h .has-words .ensures) ∙ was-false _ (c .before .if3 .taken)) (c .refused3 .ensures)
 
 settle-requires : tie.Need-settle-requires
 settle-requires c κs = search needs
@@ -131,9 +139,10 @@ same-length-8 c = search needs
 returns-4 : tie.Need-returns-4
 returns-4 c =
     let s = c .before .before .before .before in
-    let e = s .before .before .before in
-    let h = e .before in
-    read-fine _ _ _ _ (some (begun (past h))) _ (all h) _ _ (long h) (counted h .words-for .ensures) _ _ _ (sym (h .has-words .ensures) ∙ was-true _ (e .if3 .left)) refl
+    let f = s .before .before .before in
+    let e = f .before in
+    let h = asked e in
+    read-fine _ _ _ _ (some (first e)) _ (all e) _ _ (long e) (counted h .words-for .ensures) _ _ _ (sym (h .has-words .ensures) ∙ was-true _ (f .if3 .left)) refl
     (s .settle .ensures .0) (s .settle .ensures .1)
 
 pub read-literals-spec : {M : Type 1} → statement M
@@ -142,6 +151,8 @@ read-literals-spec =
     (tie.spec
     survey-requires
     first-conflict-requires
+    words-for-requires
+    has-words-requires
     refused-requires
     same-length
     same-length-2
@@ -150,8 +161,6 @@ read-literals-spec =
     same-length-3
     same-length-4
     returns-2
-    words-for-requires
-    has-words-requires
     refused-requires-3
     same-length-5
     same-length-6
