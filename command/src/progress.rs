@@ -1,4 +1,5 @@
 //! One line on a terminal, written over and over, while large files are worked on.
+use crate::options::Common;
 use std::fs;
 use std::io::{self, Write};
 use std::sync::mpsc::{self, RecvTimeoutError};
@@ -20,8 +21,8 @@ pub struct Progress {
 }
 
 impl Progress {
-    pub fn of(name: &str) -> Progress {
-        Progress { name: name.to_string(), wanted: on_terminal() }
+    pub fn of(name: &str, common: &Common) -> Progress {
+        Progress { name: name.to_string(), wanted: !common.quiet && on_terminal() }
     }
 
     fn shown(&self, length: usize) -> bool {

@@ -1,6 +1,7 @@
 //! Refusals as a person needs them.
 use crate::input::Input;
 use crate::lines::{lines, Line};
+use crate::output::Status;
 use opb::{Reason, Refusal};
 
 /// How many bytes of a line are shown, and how many of them before the place.
@@ -42,6 +43,14 @@ fn excerpt(line: &Line, at: usize) -> (String, usize) {
     let number = format!("  {} | {}", line.number, cut);
     let left = number.len() + at - from;
     (format!("{}{}{}", number, part, more), left)
+}
+
+/// The command lends as much room as is needed, so where there is none it is memory that is missing.
+pub fn status_of(refusal: &Refusal) -> Status {
+    match refusal.reason {
+        Reason::Rows | Reason::Terms | Reason::Output => Status::Trouble,
+        _ => Status::Refused,
+    }
 }
 
 fn not_enough(name: &str, refusal: &Refusal, what: &str) -> String {

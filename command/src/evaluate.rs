@@ -1,11 +1,10 @@
 //! What a solver's output says of a plan.
 use crate::input::{self, Input};
-use crate::output::{print, say, Status};
+use crate::options::{Common, Evaluate};
+use crate::output::{deliver, say, Status};
 use crate::progress::Progress;
-use crate::tasks::{loaded, status_of};
 use crate::{report, values};
 use opb::{kind, Assignment, Reason, Refusal, Table, Value};
-use std::ffi::OsStr;
 use std::fmt::Write;
 
 /// A line for each row that has a value; how many constraints there are, and the rows of those that fail.
@@ -16,21 +15,33 @@ struct Answer {
     failing: Vec<usize>,
 }
 
-pub fn evaluate(plan: &Input, table: &Table, first: u32, output: &OsStr, progress: &Progress) -> Status {
-    let output = match loaded(output, input::OUTPUT, &Progress::of(&input::name_of(output))) {
-        Ok(output) => output,
-        Err(trouble) => return trouble,
+pub fn run(task: &Evaluate, common: &Common) -> Status {
+    if task.plan == "-" && task.answer == "-" {
+        say("opb: evaluate takes one of plan and answer from standard input, not both");
+        return Status::Trouble;
+    }
+    let (plan, table) = match input::read_plan(&task.plan, common) {
+        Ok(read) => read,
+        Err(status) => return status,
     };
+    match input::answer(&task.answer, common) {
+        Ok(output) => evaluate(&plan, &table, &output, task, common),
+        Err(trouble) => trouble,
+    }
+}
+
+fn evaluate(plan: &Input, table: &Table, output: &Input, task: &Evaluate, common: &Common) -> Status {
     let mut assignment = Assignment::new();
     if let Err(refusal) = assignment.extend(&values::block(&output.bytes)) {
-        return refused_values(&output, &refusal);
+        return refused_values(output, &refusal);
     }
+    let progress = Progress::of(&plan.name, common);
     match progress.during("evaluating", plan.bytes.len(), || answer(table, &assignment)) {
-        Ok(answer) => tell(plan, first, &answer),
+        Ok(answer) => tell(plan, task, common, &answer),
         Err(refusal) => {
             let unknown = unknown(table, refusal.place as usize, &assignment);
-            say(report::of_unknown(plan, first, &refusal, unknown).trim_end());
-            status_of(&refusal)
+            say(&report::of_unknown(plan, common.first, &refusal, unknown));
+            report::status_of(&refusal)
         }
     }
 }
@@ -45,7 +56,7 @@ fn refused_values(output: &Input, refusal: &Refusal) -> Status {
             (report::of_file(output, &Refusal { place, ..*refusal }), Status::Refused)
         }
     };
-    say(message.trim_end());
+    say(&message);
     status
 }
 
@@ -83,10 +94,10 @@ fn word(kind: u8) -> &'static str {
 }
 
 /// The lines are the answer; where a constraint fails, standard error says where the first is.
-fn tell(plan: &Input, first: u32, answer: &Answer) -> Status {
-    match (print(answer.lines.as_bytes()), answer.failing.first()) {
+fn tell(plan: &Input, task: &Evaluate, common: &Common, answer: &Answer) -> Status {
+    match (deliver(&task.output, answer.lines.as_bytes()), answer.failing.first()) {
         (Status::Accepted, Some(row)) => {
-            say(report::of_failing(plan, first, *row as u64, answer.failing.len(), answer.constraints).trim_end());
+            say(&report::of_failing(plan, common.first, *row as u64, answer.failing.len(), answer.constraints));
             Status::Fails
         }
         (status, _) => status,
