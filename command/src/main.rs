@@ -3,6 +3,7 @@
 #![forbid(unsafe_code)]
 mod check;
 mod evaluate;
+mod for_solvers;
 mod header;
 mod input;
 mod lines;

@@ -8,6 +8,9 @@ use opb::{Reason, Refusal};
 const SHOWN: usize = 72;
 const BEFORE: usize = 24;
 
+/// How many objectives are named, where there are too many.
+const NAMED: usize = 20;
+
 /// The line that a byte of the file lies in.
 fn line_at(file: &[u8], place: usize) -> Option<Line<'_>> {
     lines(file).find(|line| place < line.start + line.bytes.len())
@@ -20,6 +23,16 @@ fn line_of_row(file: &[u8], first: u32, row: u64) -> Option<Line<'_>> {
         rows += opb::count(line.bytes, first).map_or(0, |size| size.rows as u64);
         row < rows
     })
+}
+
+/// The number of the line that holds each of these rows, which rise.
+fn lines_of_rows(file: &[u8], first: u32, rows: &[usize]) -> Vec<usize> {
+    let (mut before, mut found) = (0, Vec::new());
+    for line in lines(file) {
+        before += opb::count(line.bytes, first).map_or(0, |size| size.rows);
+        found.resize(rows.partition_point(|row| *row < before), line.number);
+    }
+    found
 }
 
 /// One column for each byte, so that a mark below stands at its place.
@@ -105,6 +118,14 @@ pub fn of_row(input: &Input, first: u32, refusal: &Refusal) -> String {
     }
     let (place, text) = row_place(input, first, refusal.place);
     message(&input.name, refusal, &place, &text)
+}
+
+/// Of a plan with several objectives, which no solver takes: the lines of the first of them.
+pub fn of_objectives(input: &Input, first: u32, rows: &[usize]) -> String {
+    let lines: Vec<String> = lines_of_rows(&input.bytes, first, &rows[..rows.len().min(NAMED)]).iter().map(usize::to_string).collect();
+    let more = if rows.len() > NAMED { ", ..." } else { "" };
+    let advice = "leave one of them, or make them one `min:` whose weights say how much each counts";
+    format!("{}: refused: there are {} objectives, at lines {}{}, and solvers take one at most\n  what to do: {}\n", input.name, rows.len(), lines.join(", "), more, advice)
 }
 
 /// What a variable is called in the plan; and in value lines, where its number is another there.
