@@ -163,3 +163,36 @@ impl Lines {
         })
     }
 }
+
+#[cfg(test)]
+mod tests {
+    use super::{for_solvers, NotForSolvers};
+    use crate::header::Header;
+    use opb::{kind, Reason, Refusal, Table};
+
+    /// No plan that was read has such a row; the objective behind it goes first, and the row is still the plan's.
+    #[test]
+    fn a_constraint_without_terms_is_told_by_the_plans_row() {
+        let mut table = Table::default();
+        table.push(kind::AT_LEAST, 1, &[(1, 0)]);
+        table.push(kind::EQUAL, 0, &[]);
+        table.push(kind::OBJECTIVE, 0, &[(1, 0)]);
+        let refusal = Refusal { reason: Reason::Empty, place: 1 };
+        assert!(matches!(for_solvers(b"", &table, 1), Err(NotForSolvers::Refusal(told)) if told == refusal));
+    }
+
+    /// Also where the plan has an offset of an earlier rewrite directly behind the objective.
+    #[test]
+    fn the_offset_is_the_one_that_the_writer_prints() {
+        let of = |plan: &str| {
+            let written = for_solvers(plan.as_bytes(), &opb::read(plan.as_bytes(), 1).unwrap(), 1).unwrap();
+            (written.offset, written.header, written.text.split(|byte| *byte == b'\n').nth(2).map(<[u8]>::to_vec).unwrap_or_default())
+        };
+        let line = |offset: i64| format!("* objective offset for previous objective: {}", offset).into_bytes();
+        let header = Header { variables: 2, constraints: 0 };
+        assert_eq!(of("min: 4 ~x1 -3 ~x2 -9 x1;"), (1, header, line(1)));
+        assert_eq!(of("min: 4 x1 -3 x2;\n* objective offset for previous objective: 9\n"), (0, header, line(9)));
+        assert_eq!(of("min: -9223372036854775807 ~x2;"), (-9223372036854775807, header, line(-9223372036854775807)));
+        assert_eq!(of("1 x2 >= 1;"), (0, Header { variables: 2, constraints: 1 }, Vec::new()));
+    }
+}
