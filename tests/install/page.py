@@ -75,7 +75,7 @@ def on_command(name, told, parts, synopsis):
     common = {option for option in parts["OPTIONS"] if option[1] != TOP}
     shared = {option for option in common if option[0] in synopsis or option[1] in synopsis}
     everywhere = {option for option in common if option[1] in ("--first", "--quiet", "--help")}
-    own = set(parts[name])
+    own = set(parts.get(name, []))
     check(told == own | shared | everywhere, f"{name}: help has {sorted(map(str, told))}, the page {sorted(map(str, own | shared | everywhere))}")
     named = {option[0] if option[0] in synopsis else option[1] for option in own | shared}
     check(named == synopsis, f"{name}: the synopsis has {sorted(synopsis)}, described are {sorted(named)}")
@@ -93,7 +93,7 @@ def main(path, command):
     described = [option for options in parts.values() for option in options]
     check(set(described) == shared | options_of_help(top), f"described and told by no help, or the other way: {sorted(map(str, set(described) ^ (shared | options_of_help(top))))}")
     for name in sorted(names - {"help"}):
-        on_command(name, options_of_help(help_of(command, name)), parts, synopses[name])
+        on_command(name, options_of_help(help_of(command, name)), parts, synopses.get(name, set()))
     statuses = set(re.findall(r"^\.B (\d)$", page.split(".SH EXIT STATUS")[1].split(".SH")[0], re.M))
     check(statuses == set(re.findall(r"\b(\d)\s+[a-z]", top.split("Exit status:")[1])), f"the exit statuses {sorted(statuses)}")
 
