@@ -18,7 +18,11 @@ impl Header {
         let mut words = std::str::from_utf8(text).ok()?.split_ascii_whitespace();
         let mut number = |name: &str| {
             let word = words.next()?.strip_prefix(name)?;
-            if word.is_empty() { words.next()?.parse().ok() } else { word.parse().ok() }
+            if word.is_empty() {
+                words.next()?.parse().ok()
+            } else {
+                word.parse().ok()
+            }
         };
         Some(Header { variables: number("#variable=")?, constraints: number("#constraint=")? })
     }

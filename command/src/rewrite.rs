@@ -1,10 +1,11 @@
 //! A plan written again.
+use crate::for_solvers::{for_solvers, NotForSolvers};
 use crate::input::{self, Input};
 use crate::options::{self, Common, Output};
 use crate::output::{deliver, say, Status};
 use crate::progress::Progress;
 use crate::report;
-use opb::{Literals, Refusal, Table};
+use opb::{Literals, Table};
 use std::ffi::OsStr;
 
 /// How it is written.
@@ -35,16 +36,32 @@ pub fn run(file: &OsStr, form: Form, output: &Output, common: &Common) -> Status
     let written = progress.during("rewriting", input.bytes.len(), || written(&input, table, form, common.first));
     match written {
         Ok(lines) => deliver(output, &lines),
-        Err(refusal) => {
-            say(&report::of_row(&input, common.first, &refusal));
-            report::status_of(&refusal)
-        }
+        Err(why) => not_written(&input, common.first, &why),
     }
 }
 
-/// Only rows without negative weights can be written, so the table is normalised first.
-fn written(input: &Input, table: Table, form: Form, first: u32) -> Result<Vec<u8>, Refusal> {
+fn written(input: &Input, table: Table, form: Form, first: u32) -> Result<Vec<u8>, NotForSolvers> {
+    let literals = match form {
+        Form::Negated => Literals::Negated,
+        Form::Plain => Literals::Plain,
+        Form::Solvers => return Ok(for_solvers(&input.bytes, &table, first)?.text),
+    };
+    // only rows without negative weights can be written
     let normal = table.normal()?;
     drop(table);
-    normal.write(&input.bytes, first, if form == Form::Negated { Literals::Negated } else { Literals::Plain })
+    Ok(normal.write(&input.bytes, first, literals)?)
+}
+
+/// Why the plan is not written, said.
+pub fn not_written(input: &Input, first: u32, why: &NotForSolvers) -> Status {
+    match why {
+        NotForSolvers::Objectives(rows) => {
+            say(&report::of_objectives(input, first, rows));
+            Status::Refused
+        }
+        NotForSolvers::Refusal(refusal) => {
+            say(&report::of_row(input, first, refusal));
+            report::status_of(refusal)
+        }
+    }
 }
