@@ -6,6 +6,7 @@ mod check;
 mod evaluate;
 mod for_solvers;
 mod header;
+mod help;
 mod input;
 mod lines;
 mod list;

@@ -32,7 +32,7 @@ fn object(name: &str, status: Status) -> Value {
     json!({
         "name": name, "accepted": status == Status::Accepted,
         "rows": null, "comments": null, "constraints": null, "objectives": null, "terms": null, "variables": null, "highest": null, "names": null, "header": null,
-        "refusals": [], "refused": 0, "warnings": [], "status": status as u8,
+        "refusals": [], "refused": 0, "warnings": [], "remark": null, "status": status as u8,
     })
 }
 
@@ -48,7 +48,7 @@ pub fn of_trouble(name: &str, status: Status) -> String {
 pub fn of(input: &Input, checked: &Checked, first: u32) -> String {
     let mut object = object(&input.name, checked.status());
     match checked {
-        Checked::Accepted { sums, warnings } => {
+        Checked::Accepted { sums, warnings, remark } => {
             let counts = [
                 ("rows", sums.rows), ("comments", sums.comments), ("constraints", sums.constraints()), ("objectives", sums.objectives),
                 ("terms", sums.terms), ("variables", sums.variables.len()), ("names", sums.names.indexes.len()),
@@ -57,6 +57,7 @@ pub fn of(input: &Input, checked: &Checked, first: u32) -> String {
             object["highest"] = json!(sums.highest(first));
             object["header"] = sums.header.as_ref().map_or(Value::Null, header);
             object["warnings"] = json!(warnings);
+            object["remark"] = json!(remark);
         }
         Checked::Refused { findings, refused } => {
             object["refusals"] = findings.iter().map(|it| finding(&input.bytes, it)).collect();

@@ -19,7 +19,7 @@ use walk::{Finding, Walk};
 const MOST: usize = 20;
 
 enum Checked<'a> {
-    Accepted { sums: Sums<'a>, warnings: Vec<String> },
+    Accepted { sums: Sums<'a>, warnings: Vec<String>, remark: Option<String> },
     Refused { findings: Vec<Finding<'a>>, refused: usize },
     TooLong(Refusal),
 }
@@ -59,8 +59,9 @@ fn on_file(input: &Input, task: &Check, common: &Common) -> Status {
     };
     let text = if task.json { json::of(input, &checked, common.first) } else { text(input, &checked, common) };
     let printed = print(text.as_bytes());
-    if let (Checked::Accepted { warnings, .. }, false) = (&checked, common.quiet) {
+    if let (Checked::Accepted { warnings, remark, .. }, false) = (&checked, common.quiet) {
         warnings.iter().for_each(|warning| say(&format!("{}: warning: {}", input.name, warning)));
+        remark.iter().for_each(|remark| say(&format!("{}: remark: {}", input.name, remark)));
     }
     printed.max(checked.status())
 }
@@ -83,8 +84,8 @@ fn checked<'a>(input: &'a Input, task: &Check, common: &Common) -> Result<Checke
     let Walk { sums, findings, refused, .. } = walk;
     match (whole.map_err(|_| at_odds(&input.name))?, findings.first()) {
         (Ok(size), None) if size == (Size { rows: sums.rows, terms: sums.terms }) => {
-            let warnings = warnings::of(file, &sums, common.first);
-            Ok(Checked::Accepted { sums, warnings })
+            let (warnings, remark) = (warnings::of(file, &sums, common.first), warnings::remark(&sums, common.first));
+            Ok(Checked::Accepted { sums, warnings, remark })
         }
         (Err(refusal), Some(first)) if refusal == first.refusal => Ok(Checked::Refused { findings, refused }),
         _ => Err(at_odds(&input.name)),

@@ -2,6 +2,7 @@
 use super::sums::Sums;
 use crate::header::Header;
 
+/// What a solver may trip over, or a planner did not mean.
 pub fn of(file: &[u8], sums: &Sums, first: u32) -> Vec<String> {
     let mut all = Vec::new();
     all.extend(rows(sums));
@@ -53,13 +54,19 @@ fn header_numbers(header: &Header, sums: &Sums, first: u32) -> Vec<String> {
     if header.variables < least {
         all.push(format!("the header says {} variables, and the highest is x{} of {}: it must say {}", header.variables, highest, count, least));
     }
-    if header.variables > least {
-        all.push(format!("the header says {} variables, and the highest is x{}; solvers allow that", header.variables, highest));
-    }
     if header.constraints != constraints {
         all.push(format!("the header says {} constraints, and there are {}", header.constraints, constraints));
     }
     all
+}
+
+/// A header may name more variables than the rows have; that one of them was forgotten is for the planner to say.
+pub fn remark(sums: &Sums, first: u32) -> Option<String> {
+    let (header, highest) = (sums.header?, sums.highest(first).unwrap_or(0));
+    if header.variables <= highest.max(sums.variables.len() as u64) {
+        return None;
+    }
+    Some(format!("the header says {} variables, which solvers allow; the highest in a row is x{}", header.variables, highest))
 }
 
 fn names(file: &[u8], sums: &Sums) -> Vec<String> {
