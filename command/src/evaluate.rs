@@ -108,7 +108,7 @@ fn tell(plan: &Input, task: &Evaluate, common: &Common, answer: &Answer) -> Stat
 }
 
 /// The index of the row's first variable that has no value.
-fn unknown(table: &Table, row: usize, assignment: &Assignment) -> Option<u32> {
+pub fn unknown(table: &Table, row: usize, assignment: &Assignment) -> Option<u32> {
     let terms = &table.literals[table.firsts[row]..][..table.counts[row]];
     terms.iter().map(|literal| literal / 2).find(|index| assignment.value(*index as usize).is_none())
 }

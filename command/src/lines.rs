@@ -1,6 +1,7 @@
 //! The lines of a file.
 
 /// A line of a file: its number, from 1, its bytes with their LF, and the offset of its first.
+#[derive(Clone, Copy)]
 pub struct Line<'a> {
     pub number: usize,
     pub bytes: &'a [u8],

@@ -26,12 +26,12 @@ fn line_of_row(file: &[u8], first: u32, row: u64) -> Option<Line<'_>> {
     })
 }
 
-/// The number of the line that holds each of these rows, which rise.
-fn lines_of_rows(file: &[u8], first: u32, rows: &[usize]) -> Vec<usize> {
+/// The line that holds each of these rows, which rise.
+pub fn lines_of_rows<'a>(file: &'a [u8], first: u32, rows: &[usize]) -> Vec<Line<'a>> {
     let (mut before, mut found) = (0, Vec::new());
     for line in lines(file) {
         before += opb::count(line.bytes, first).map_or(0, |size| size.rows);
-        found.resize(rows.partition_point(|row| *row < before), line.number);
+        found.resize(rows.partition_point(|row| *row < before), line);
     }
     found
 }
@@ -58,7 +58,7 @@ pub fn part(line: &Line, at: usize) -> (String, usize) {
 }
 
 /// The same behind the line's number.
-fn excerpt(line: &Line, at: usize) -> (String, usize) {
+pub fn excerpt(line: &Line, at: usize) -> (String, usize) {
     let (number, (part, left)) = (format!("  {} | ", line.number), part(line, at));
     (format!("{}{}", number, part), number.len() + left)
 }
@@ -132,14 +132,14 @@ pub fn of_row(input: &Input, first: u32, refusal: &Refusal) -> String {
 
 /// Of a plan with several objectives, which no solver takes: the lines of the first of them.
 pub fn of_objectives(input: &Input, first: u32, rows: &[usize]) -> String {
-    let lines: Vec<String> = lines_of_rows(&input.bytes, first, &rows[..rows.len().min(NAMED)]).iter().map(usize::to_string).collect();
+    let lines: Vec<String> = lines_of_rows(&input.bytes, first, &rows[..rows.len().min(NAMED)]).iter().map(|line| line.number.to_string()).collect();
     let more = if rows.len() > NAMED { ", ..." } else { "" };
     let advice = "leave one of them, or make them one `min:` whose weights say how much each counts";
     format!("{}: refused: there are {} objectives, at lines {}{}, and solvers take one at most\n  what to do: {}\n", input.name, rows.len(), lines.join(", "), more, advice)
 }
 
 /// What a variable is called in the plan; and in value lines, where its number is another there.
-fn variable(index: u32, first: u32) -> String {
+pub fn variable(index: u32, first: u32) -> String {
     let (in_plan, in_values) = (u64::from(index) + u64::from(first), u64::from(index) + 1);
     let other = if in_plan == in_values { String::new() } else { format!(" (x{} in value lines)", in_values) };
     format!("x{}{}", in_plan, other)

@@ -173,6 +173,6 @@ mod tests {
     #[test]
     fn variables_are_those_of_one_statement() {
         assert_eq!(variables(b"1 x3 2 ~x0 >= 1; 1 x7 >= 1"), [3, 0]);
-        assert_eq!(variables(b"1 x99999999999999999999 2 x >= 1"), [0; 0]);
+        assert!(variables(b"1 x99999999999999999999 2 x >= 1").is_empty());
     }
 }

@@ -103,6 +103,12 @@ pub fn count(file: &[u8], first: u32) -> Result<Size, Refusal> {
 }
 
 /// A file's rows: counted, then read into columns of just that size. Where there is no memory for them, the refusal is 9 or 10.
+///
+/// ```
+/// let table = opb::read(b"3 x1 -2 ~x2 >= 1;\n", 1)?;
+/// assert_eq!((table.bounds, table.weights, table.literals), (vec![1], vec![3, -2], vec![0, 3]));
+/// # Ok::<(), opb::Refusal>(())
+/// ```
 pub fn read(file: &[u8], first: u32) -> Result<Table, Refusal> {
     let mut table = Table::of_size(count(file, first)?)?;
     table.read_into(file, first)?;
@@ -160,6 +166,12 @@ impl Table {
     }
 
     /// The same rows without negative weights.
+    ///
+    /// ```
+    /// let normal = opb::read(b"3 x1 -2 x2 >= -1;\n", 1)?.normal()?;
+    /// assert_eq!(normal.write(b"", 1, opb::Literals::Negated)?, b"3 x1 2 ~x2 >= 1;\n");
+    /// # Ok::<(), opb::Refusal>(())
+    /// ```
     pub fn normal(&self) -> Result<Table, Refusal> {
         let mut normal = Table::of_size(self.size())?;
         match self.normal_into(&mut normal) {
@@ -180,6 +192,13 @@ impl Table {
     }
 
     /// One row under an assignment: variable index v is bit v mod 64 of word v / 64.
+    ///
+    /// ```
+    /// let table = opb::read(b"3 x1 2 x2 <= 4;\nmin: 4 ~x1;\n", 1)?;
+    /// assert_eq!(table.evaluate(0, &[0b11])?, opb::Value::Constraint { sum: 5, holds: false, ones: 2 });
+    /// assert_eq!(table.evaluate(1, &[0b10])?, opb::Value::Objective { value: 4, ones: 1 });
+    /// # Ok::<(), opb::Refusal>(())
+    /// ```
     pub fn evaluate(&self, row: usize, words: &[u64]) -> Result<Value, Refusal> {
         ffi::evaluate(self, row, words)
     }
@@ -222,6 +241,13 @@ impl Table {
     }
 
     /// The rows as lines of an OPB file. Comment rows point into `text`: for rows that were read, the file.
+    ///
+    /// ```
+    /// let file = b"* hall\n3 x1 2 x2 <= 4;\n";
+    /// let table = opb::read(file, 1)?;
+    /// assert_eq!(table.write(file, 1, opb::Literals::Negated)?, b"* hall\n3 ~x1 2 ~x2 >= 1;\n");
+    /// # Ok::<(), opb::Refusal>(())
+    /// ```
     pub fn write(&self, text: &[u8], first: u32, literals: Literals) -> Result<Vec<u8>, Refusal> {
         measured(|out| self.write_into(text, first, literals, out))
     }
@@ -232,6 +258,12 @@ impl Table {
     }
 
     /// The rows as the lines of the listing, parted by tabs.
+    ///
+    /// ```
+    /// let table = opb::read(b"* hall\n3 x1 -2 ~x2 < 4\n", 1)?;
+    /// assert_eq!(table.list(1)?, b"opb\t2\t2\t1\nc\t4\nle\t3\t3\tx1\t-2\t~x2\n");
+    /// # Ok::<(), opb::Refusal>(())
+    /// ```
     pub fn list(&self, first: u32) -> Result<Vec<u8>, Refusal> {
         measured(|out| self.list_into(first, out))
     }

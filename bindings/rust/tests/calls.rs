@@ -398,3 +398,28 @@ fn comments_are_pushed_as_ranges_of_a_text() {
     table.push_comment(1..3);
     assert_eq!(table.write(b"abcd", 1, Literals::Plain).unwrap(), b"1 x1 >= 1;\n* bc\n");
 }
+
+/// The number that the header gives to a name.
+fn of_header(name: &str) -> Option<u64> {
+    let header = include_str!("../../../include/opb.h");
+    header.lines().find_map(|line| line.strip_prefix("#define ")?.strip_prefix(name)?.strip_prefix(' ')?.parse().ok())
+}
+
+/// A name of the header for one of an enum: `AtLeast` is `OPB_AT_LEAST`.
+fn name(prefix: &str, variant: &str) -> String {
+    let words = variant.chars().map(|letter| if letter.is_uppercase() { format!("_{}", letter) } else { letter.to_uppercase().to_string() });
+    prefix.to_string() + &words.collect::<String>()
+}
+
+#[test]
+fn names_and_numbers_are_those_of_the_header() {
+    for kind in (0..=8).filter_map(Kind::of) {
+        assert_eq!(of_header(&name("OPB", &format!("{:?}", kind))), Some(u64::from(kind.number())), "{:?}", kind);
+    }
+    for reason in (0..=u8::MAX).filter_map(Reason::of) {
+        assert_eq!(of_header(&name("OPB_REFUSED", &format!("{:?}", reason))), Some(u64::from(reason.number())), "{:?}", reason);
+    }
+    assert_eq!((of_header("OPB_FILE_LIMIT"), of_header("OPB_INDEX_LIMIT")), (Some(opb::FILE_LIMIT as u64), Some(u64::from(opb::INDEX_LIMIT))));
+    let version = ["OPB_VERSION_MAJOR", "OPB_VERSION_MINOR", "OPB_VERSION_PATCH"].map(|part| of_header(part).unwrap().to_string());
+    assert_eq!(version.join("."), opb::VERSION);
+}
