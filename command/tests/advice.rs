@@ -143,8 +143,8 @@ fn of_all_commands_that_read_a_plan() {
 fn of_value_lines_is_the_general_one() {
     let plan = path("plan.opb");
     fs::write(&plan, PLAN).unwrap();
-    for answer in ["v x0", "v 1 -0 2", "v -x0"] {
+    for answer in ["v x0", "v -x0", "v x1 x0 x2"] {
         let (status, _, trouble) = opb(&["evaluate", &plan, "-"], answer);
-        assert!(status == 0 || status == 1 && !trouble.contains("--first"), "{}", trouble);
+        assert!(status == 1 && trouble.contains("refused (5)") && !trouble.contains("--first"), "{}", trouble);
     }
 }

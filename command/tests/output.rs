@@ -1,11 +1,11 @@
 //! Where lines go: standard output, and files that are written whole or not at all.
 mod common;
 use common::{command, file, folder, opb, printed, start, PLAN, ROOMS};
-use std::process::Command;
 use std::fs;
+use std::io::Write;
 use std::os::unix::fs::{symlink, PermissionsExt};
 use std::path::PathBuf;
-use std::io::Write;
+use std::process::Command;
 
 #[test]
 fn a_reader_that_goes_away_is_no_trouble() {

@@ -90,7 +90,11 @@ impl<'a> Walk<'a> {
             self.findings.push(Finding { refusal, line, lines });
         }
         self.refused += lines;
-        if no_text(self.file).is_some() { self.file.len() } else { start + length.max(bytes) }
+        if no_text(self.file).is_some() {
+            self.file.len()
+        } else {
+            start + length.max(bytes)
+        }
     }
 
     /// The number of the line that begins here, behind all that were asked for before.
