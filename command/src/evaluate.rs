@@ -63,7 +63,7 @@ fn refused_values(output: &Input, refusal: &Refusal) -> Status {
 fn answer(table: &Table, assignment: &Assignment) -> Result<Answer, Refusal> {
     let mut answer = Answer::default();
     for row in (0..table.kinds.len()).filter(|row| table.kinds[*row] != kind::COMMENT) {
-        answer.add(table, row, table.evaluate_known(row, assignment)?);
+        answer.add(table, row, table.evaluate_front(row, assignment)?);
     }
     Ok(answer)
 }

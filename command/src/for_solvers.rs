@@ -6,9 +6,6 @@ use opb::{kind, Literals, Reason, Refusal, Table};
 /// The first number of a variable, to solvers.
 const FIRST: u32 = 1;
 
-/// What closes the names.
-const CLOSING: &[u8] = b"0";
-
 /// The text, what its header says, and what is to be added to a value that a solver tells.
 #[derive(Debug)]
 pub struct ForSolvers {
@@ -37,7 +34,7 @@ pub fn for_solvers(file: &[u8], table: &Table, first: u32) -> Result<ForSolvers,
     let offset = objective.map_or(0, |row| offset(&normal, row));
     let header = header(&normal);
     let mut lines = Lines::new(normal, header);
-    lines.take_rows(file, objective, first)?;
+    lines.take_rows(file, first_row(table, objective), first)?;
     Ok(ForSolvers { text: lines.written()?, offset, header })
 }
 
@@ -51,11 +48,19 @@ fn objective(table: &Table) -> Result<Option<usize>, NotForSolvers> {
     }
 }
 
+fn is_constraint(kind: u8) -> bool {
+    kind != kind::COMMENT && kind != kind::OBJECTIVE
+}
+
+/// The row behind the header: the objective; without one, a constraint. Where a single comment stands there, Sat4j 2.3.5 takes the line behind that for a comment, too.
+fn first_row(table: &Table, objective: Option<usize>) -> Option<usize> {
+    objective.or_else(|| table.kinds.iter().position(|kind| is_constraint(*kind)))
+}
+
 /// What is true of the table as it is written.
 fn header(table: &Table) -> Header {
-    let is_constraint = |kind: &&u8| **kind != kind::COMMENT && **kind != kind::OBJECTIVE;
     let highest = table.literals.iter().max().map_or(0, |literal| u64::from(literal / 2) + u64::from(FIRST));
-    Header { variables: highest, constraints: table.kinds.iter().filter(is_constraint).count() as u64 }
+    Header { variables: highest, constraints: table.kinds.iter().filter(|kind| is_constraint(**kind)).count() as u64 }
 }
 
 /// What the writer says behind the objective: a negated literal of weight w is written as -w on its variable, and the offset grows by w. A sum beyond 64 bits is a refusal of the writer.
@@ -81,13 +86,13 @@ impl Lines {
         lines
     }
 
-    /// The objective, then the rest, in the plan's order.
-    fn take_rows(&mut self, file: &[u8], objective: Option<usize>, first: u32) -> Result<(), Refusal> {
+    /// The row that goes first, then the rest in the plan's order; an objective that does not go first is one without terms.
+    fn take_rows(&mut self, file: &[u8], lead: Option<usize>, first: u32) -> Result<(), Refusal> {
         self.make_room()?;
-        if let Some(row) = objective {
+        if let Some(row) = lead {
             self.terms(row);
         }
-        for row in 0..self.normal.kinds.len() {
+        for row in (0..self.normal.kinds.len()).filter(|row| Some(*row) != lead) {
             match self.normal.kinds[row] {
                 kind::OBJECTIVE => {}
                 kind::COMMENT => self.plan_comment(row, comment(file, &self.normal, row), first),
@@ -125,9 +130,10 @@ impl Lines {
         self.row(row, kind, first, count, bound);
     }
 
+    /// A CR ends a line to clasp and Sat4j, so that behind it a statement could stand; clasp takes no zero byte. A blank is put in the place of both.
     fn comment(&mut self, from: usize, text: &[u8]) {
         let first = self.text.len();
-        self.text.extend_from_slice(text);
+        self.text.extend(text.iter().map(|byte| if matches!(byte, 0 | b'\r') { b' ' } else { *byte }));
         self.row(from, kind::COMMENT, first, text.len(), 0);
     }
 
@@ -155,5 +161,38 @@ impl Lines {
             Reason::Output => refusal,
             _ => Refusal { place: rows[refusal.place as usize] as u64, ..refusal },
         })
+    }
+}
+
+#[cfg(test)]
+mod tests {
+    use super::{for_solvers, NotForSolvers};
+    use crate::header::Header;
+    use opb::{Kind, Reason, Refusal, Table};
+
+    /// No plan that was read has such a row; the objective behind it goes first, and the row is still the plan's.
+    #[test]
+    fn a_constraint_without_terms_is_told_by_the_plans_row() {
+        let mut table = Table::default();
+        table.push(Kind::AtLeast, 1, &[(1, 0)]);
+        table.push(Kind::Equal, 0, &[]);
+        table.push(Kind::Objective, 0, &[(1, 0)]);
+        let refusal = Refusal { reason: Reason::Empty, place: 1 };
+        assert!(matches!(for_solvers(b"", &table, 1), Err(NotForSolvers::Refusal(told)) if told == refusal));
+    }
+
+    /// Also where the plan has an offset of an earlier rewrite directly behind the objective.
+    #[test]
+    fn the_offset_is_the_one_that_the_writer_prints() {
+        let of = |plan: &str| {
+            let written = for_solvers(plan.as_bytes(), &opb::read(plan.as_bytes(), 1).unwrap(), 1).unwrap();
+            (written.offset, written.header, written.text.split(|byte| *byte == b'\n').nth(2).map(<[u8]>::to_vec).unwrap_or_default())
+        };
+        let line = |offset: i64| format!("* objective offset for previous objective: {}", offset).into_bytes();
+        let header = Header { variables: 2, constraints: 0 };
+        assert_eq!(of("min: 4 ~x1 -3 ~x2 -9 x1;"), (1, header, line(1)));
+        assert_eq!(of("min: 4 x1 -3 x2;\n* objective offset for previous objective: 9\n"), (0, header, line(9)));
+        assert_eq!(of("min: -9223372036854775807 ~x2;"), (-9223372036854775807, header, line(-9223372036854775807)));
+        assert_eq!(of("1 x2 >= 1;"), (0, Header { variables: 2, constraints: 1 }, Vec::new()));
     }
 }
