@@ -14,6 +14,7 @@ mod output;
 mod progress;
 mod report;
 mod rewrite;
+mod single;
 mod solve;
 mod values;
 
