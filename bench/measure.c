@@ -1,7 +1,5 @@
 /* Times one call: measure WHAT FILE, WHAT one of read, count (the first walk alone), walks, tight, newlines, write, write-plain, values (FILE is a block of value lines). Prints the seconds, the bytes that they went over and the peak memory of the process in KB. Columns and outputs
- * are there and touched before the clock starts, and the call has been made once before, as a caller's who reads many files.
- *
- * On x86-64 the library is called as include/opb.h says. Elsewhere the same module was compiled for this processor (bench/library), and the address of the answer is its functions' first parameter. */
+ * are there and touched before the clock starts, and the call has been made once before, as a caller's who reads many files. */
 #include <stdio.h>
 #include <stdlib.h>
 #include <string.h>
@@ -11,17 +9,6 @@
 #include "opb.h"
 #include "tight.h"
 #include "walks.h"
-
-#ifdef __x86_64__
-#define ASK(answer, call, ...) (answer = opb_##call(__VA_ARGS__))
-#else
-void *at_count() __asm__("opb_count");
-void *at_read() __asm__("opb_read");
-void *at_normalise() __asm__("opb_normalise");
-void *at_write() __asm__("opb_write");
-void *at_values() __asm__("opb_values");
-#define ASK(answer, call, ...) at_##call(&answer, __VA_ARGS__)
-#endif
 
 typedef struct {
     uint8_t *kinds;
@@ -68,44 +55,39 @@ static void told(double began, size_t bytes) {
 }
 
 static table counted(void) {
-    opb_table a;
-    ASK(a, count, file, length, 1u);
+    opb_table a = opb_count(file, length, 1);
     accepted(a.refusal);
     return columns(a.rows, a.terms);
 }
 
 static table read_file(int timed) {
-    opb_table a;
     table t = counted();
-    ASK(a, read, file, length, 1u, LENT(&t));
+    opb_table a = opb_read(file, length, 1, LENT(&t));
     if (!timed) return t;
     double began = now();
-    ASK(a, read, file, length, 1u, LENT(&t));
+    a = opb_read(file, length, 1, LENT(&t));
     told(began, length);
     accepted(a.refusal);
     return t;
 }
 
-static void write_table(unsigned plain) {
-    opb_table a;
-    opb_text w;
+static void write_table(uint8_t plain) {
     table t = read_file(0), n = columns(t.rows, t.terms);
-    ASK(a, normalise, LENT(&t), LENT(&n));
+    opb_table a = opb_normalise(LENT(&t), LENT(&n));
     accepted(a.refusal);
     size_t most = 2 * length + 64;
     uint8_t *out = room(most);
-    ASK(w, write, LENT(&n), file, length, 1u, plain, out, most);
+    opb_text w = opb_write(LENT(&n), file, length, 1, plain, out, most);
     double began = now();
-    ASK(w, write, LENT(&n), file, length, 1u, plain, out, most);
+    w = opb_write(LENT(&n), file, length, 1, plain, out, most);
     accepted(w.refusal);
     told(began, w.length);
 }
 
 static void count_file(void) {
-    opb_table a;
-    ASK(a, count, file, length, 1u);
+    opb_table a = opb_count(file, length, 1);
     double began = now();
-    ASK(a, count, file, length, 1u);
+    a = opb_count(file, length, 1);
     told(began, length);
     accepted(a.refusal);
 }
@@ -130,15 +112,14 @@ static void read_walks(void) {
 
 /* On an empty assignment, whose rows have the words that an assignment without words was refused for. */
 static void read_values(void) {
-    opb_length a;
-    ASK(a, values, file, length, 0ull, NULL, 0ul, NULL, 0ul);
+    opb_length a = opb_values(file, length, 0, NULL, 0, NULL, 0);
     size_t words = a.place;
     uint64_t *values = room(8 * words), *known = room(8 * words);
     memset(known, 0, 8 * words);
-    ASK(a, values, file, length, 0ull, values, words, known, words);
+    a = opb_values(file, length, 0, values, words, known, words);
     memset(known, 0, 8 * words);
     double began = now();
-    ASK(a, values, file, length, 0ull, values, words, known, words);
+    a = opb_values(file, length, 0, values, words, known, words);
     told(began, length);
     accepted(a.refusal);
 }

@@ -1,5 +1,5 @@
 /* opb.h: read, normalise, evaluate, write and list OPB files (linear pseudo-Boolean constraints), and read a solver's value lines, over columns and words that the caller lends. Link with
- * libopb.a (x86-64 Linux).
+ * libopb.a, which tools/archive makes on x86-64 and on aarch64 Linux; where both are installed, `pkg-config --cflags --libs opb` names them.
  *
  * An example, which the tests compile and run: a file is read and written again with plain variables only.
  *
@@ -7,25 +7,24 @@
  *     #include <string.h>
  *     #include "opb.h"
  *
+ *     static int refused(const char *what, uint8_t refusal, uint64_t place) {
+ *         if (refusal != OPB_ACCEPTED) printf("not %s: refusal %d, place %llu: %s\n", what, refusal, (unsigned long long)place, opb_message(refusal));
+ *         return refusal != OPB_ACCEPTED;
+ *     }
+ *
  *     int main(void) {
  *         const char *plan = "3 x1 2 x2 <= 4;\nmin: 4 ~x1 1 x3;\n";
  *         const uint8_t *file = (const uint8_t *)plan;
- *         size_t length = strlen(plan);
  *         uint8_t kinds[8], out[256];
  *         size_t firsts[8], counts[8];
  *         int64_t bounds[8], weights[16];
  *         uint32_t literals[16];
- *         opb_table t = opb_read(file, length, 1, kinds, 8, firsts, 8, counts, 8, bounds, 8, weights, 16, literals, 16);
- *         if (t.refusal != OPB_ACCEPTED) {
- *             printf("not read: refusal %d, place %llu\n", t.refusal, (unsigned long long)t.place);
- *             return 1;
- *         }
- *         opb_text w = opb_write(kinds, t.rows, firsts, t.rows, counts, t.rows, bounds, t.rows, weights, t.terms, literals, t.terms, file, length, 1, 1, out, 256);
- *         if (w.refusal != OPB_ACCEPTED) {
- *             printf("not written: refusal %d, place %llu\n", w.refusal, (unsigned long long)w.place);
- *             return 1;
- *         }
- *         fwrite(out, 1, w.length, stdout);
+ *         opb_columns columns = {kinds, firsts, counts, bounds, weights, literals, 8, 16};
+ *         opb_table read = opb_columns_read(file, strlen(plan), 1, &columns);
+ *         if (refused("read", read.refusal, read.place)) return 1;
+ *         opb_text written = opb_columns_write(&columns, file, strlen(plan), 1, 1, out, sizeof out);
+ *         if (refused("written", written.refusal, written.place)) return 1;
+ *         fwrite(out, 1, written.length, stdout);
  *         return 0;
  *     }
  *
@@ -51,6 +50,12 @@
 #ifdef __cplusplus
 extern "C" {
 #endif
+
+/* The version of this header and of libopb.a with it. */
+#define OPB_VERSION_MAJOR 0
+#define OPB_VERSION_MINOR 2
+#define OPB_VERSION_PATCH 0
+#define OPB_VERSION "0.2.0"
 
 /* ---- Tables: six columns, four with an entry for each row, two with an entry for each term.
  *
@@ -130,6 +135,32 @@ extern "C" {
 #define OPB_REFUSED_TOKEN 21
 /* A variable gets another value than the one known, or than an earlier token of the block gave it. Place T. */
 #define OPB_REFUSED_CONFLICT 22
+
+/* What a refusal's number means, in a few words without its place; every number has some. */
+static inline const char *opb_message(uint8_t refusal) {
+    switch (refusal) {
+    case OPB_ACCEPTED: return "accepted";
+    case OPB_REFUSED_FILE_LENGTH: return "the file is longer than 1,073,741,823 bytes";
+    case OPB_REFUSED_STATEMENT: return "no statement begins there (a blank line is none)";
+    case OPB_REFUSED_NUMBER: return "a number is missing, is a sign alone, or is beyond 64 bits";
+    case OPB_REFUSED_LITERAL: return "a weight has no blank behind it, or no variable there";
+    case OPB_REFUSED_VARIABLE: return "a variable's number is below the first index, or too large";
+    case OPB_REFUSED_OPERATOR: return "no operator stands behind the sum";
+    case OPB_REFUSED_ENDING: return "the statement does not end where it should";
+    case OPB_REFUSED_OVERFLOW: return "the weights add up to more than 9,223,372,036,854,775,807, or a result is beyond 64 bits";
+    case OPB_REFUSED_ROWS: return "the table has no room for the rows";
+    case OPB_REFUSED_TERMS: return "the table has no room for the terms";
+    case OPB_REFUSED_ROW: return "no table may hold this row, or this call does not take it";
+    case OPB_REFUSED_ASSIGNMENT: return "a variable has no value in the assignment, or its words are too few";
+    case OPB_REFUSED_EMPTY: return "a constraint without terms cannot be written";
+    case OPB_REFUSED_OUTPUT: return "the output has no room for the text";
+    case OPB_REFUSED_COMMENT: return "a comment with a line feed cannot be written";
+    case OPB_REFUSED_LINE: return "no value line begins there (it would begin with `v`)";
+    case OPB_REFUSED_TOKEN: return "this is no value in the form of these value lines";
+    case OPB_REFUSED_CONFLICT: return "the variable has the other value already";
+    default: return "unknown to this version of opb.h";
+    }
+}
 
 /* ---- Answers. Where `refusal` is not OPB_ACCEPTED, every field but `place` is 0. */
 
@@ -260,6 +291,71 @@ opb_text opb_list(const uint8_t *kinds, size_t kinds_length,
                   const uint32_t *literals, size_t literals_length,
                   size_t rows, uint32_t first,
                   uint8_t *out, size_t out_length);
+
+/* ---- The same over six columns in one struct */
+
+/* Six columns, with as many entries for rows in each of the first four, and for terms in the last two, as `rows` and `terms` say. */
+typedef struct {
+    uint8_t *kinds;
+    size_t *firsts, *counts;
+    int64_t *bounds, *weights;
+    uint32_t *literals;
+    size_t rows, terms;
+} opb_columns;
+
+/* What an accepted call has filled is the table that the columns hold from then on: `rows` and `terms` become those that it counts. They were the room, so to fill the columns again give them
+ * the room again. A refused call changes neither. */
+static inline opb_table opb_columns_filled(opb_columns *columns, opb_table answer) {
+    if (answer.refusal == OPB_ACCEPTED) {
+        columns->rows = (size_t)answer.rows;
+        columns->terms = (size_t)answer.terms;
+    }
+    return answer;
+}
+
+/* opb_read. */
+static inline opb_table opb_columns_read(const uint8_t *file, size_t file_length, uint32_t first, opb_columns *into) {
+    return opb_columns_filled(into, opb_read(file, file_length, first, into->kinds, into->rows, into->firsts, into->rows, into->counts, into->rows,
+                                             into->bounds, into->rows, into->weights, into->terms, into->literals, into->terms));
+}
+
+/* opb_normalise. */
+static inline opb_table opb_columns_normalise(const opb_columns *columns, opb_columns *into) {
+    return opb_columns_filled(into, opb_normalise(columns->kinds, columns->rows, columns->firsts, columns->rows, columns->counts, columns->rows,
+                                                  columns->bounds, columns->rows, columns->weights, columns->terms, columns->literals, columns->terms,
+                                                  into->kinds, into->rows, into->firsts, into->rows, into->counts, into->rows,
+                                                  into->bounds, into->rows, into->weights, into->terms, into->literals, into->terms));
+}
+
+/* opb_evaluate. */
+static inline opb_value opb_columns_evaluate(const opb_columns *columns, size_t row, const uint64_t *words, size_t words_length) {
+    return opb_evaluate(columns->kinds, columns->rows, columns->firsts, columns->rows, columns->counts, columns->rows,
+                        columns->bounds, columns->rows, columns->weights, columns->terms, columns->literals, columns->terms,
+                        row, words, words_length);
+}
+
+/* opb_evaluate_known. */
+static inline opb_value opb_columns_evaluate_known(const opb_columns *columns, size_t row, const uint64_t *values, size_t values_length,
+                                                   const uint64_t *known, size_t known_length) {
+    return opb_evaluate_known(columns->kinds, columns->rows, columns->firsts, columns->rows, columns->counts, columns->rows,
+                              columns->bounds, columns->rows, columns->weights, columns->terms, columns->literals, columns->terms,
+                              row, values, values_length, known, known_length);
+}
+
+/* opb_write. */
+static inline opb_text opb_columns_write(const opb_columns *columns, const uint8_t *text, size_t text_length, uint32_t first, uint8_t plain,
+                                         uint8_t *out, size_t out_length) {
+    return opb_write(columns->kinds, columns->rows, columns->firsts, columns->rows, columns->counts, columns->rows,
+                     columns->bounds, columns->rows, columns->weights, columns->terms, columns->literals, columns->terms,
+                     text, text_length, first, plain, out, out_length);
+}
+
+/* opb_list, of all rows. */
+static inline opb_text opb_columns_list(const opb_columns *columns, uint32_t first, uint8_t *out, size_t out_length) {
+    return opb_list(columns->kinds, columns->rows, columns->firsts, columns->rows, columns->counts, columns->rows,
+                    columns->bounds, columns->rows, columns->weights, columns->terms, columns->literals, columns->terms,
+                    columns->rows, first, out, out_length);
+}
 
 #ifdef __cplusplus
 }

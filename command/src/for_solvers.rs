@@ -171,15 +171,15 @@ impl Lines {
 mod tests {
     use super::{for_solvers, NotForSolvers};
     use crate::header::Header;
-    use opb::{kind, Reason, Refusal, Table};
+    use opb::{Kind, Reason, Refusal, Table};
 
     /// No plan that was read has such a row; the objective behind it goes first, and the row is still the plan's.
     #[test]
     fn a_constraint_without_terms_is_told_by_the_plans_row() {
         let mut table = Table::default();
-        table.push(kind::AT_LEAST, 1, &[(1, 0)]);
-        table.push(kind::EQUAL, 0, &[]);
-        table.push(kind::OBJECTIVE, 0, &[(1, 0)]);
+        table.push(Kind::AtLeast, 1, &[(1, 0)]);
+        table.push(Kind::Equal, 0, &[]);
+        table.push(Kind::Objective, 0, &[(1, 0)]);
         let refusal = Refusal { reason: Reason::Empty, place: 1 };
         assert!(matches!(for_solvers(b"", &table, 1), Err(NotForSolvers::Refusal(told)) if told == refusal));
     }

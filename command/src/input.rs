@@ -73,11 +73,11 @@ fn load(file: &OsStr, most: u64, progress: &Progress) -> io::Result<Input> {
 }
 
 fn read_all(mut source: impl Read, expected: u64, progress: &Progress) -> io::Result<Vec<u8>> {
+    let bar = progress.reading(expected);
     let mut bytes = Vec::new();
     bytes.try_reserve_exact(expected as usize).map_err(|error| io::Error::new(ErrorKind::OutOfMemory, error))?;
     while source.by_ref().take(STEP).read_to_end(&mut bytes)? > 0 {
-        progress.read(bytes.len());
+        bar.read(bytes.len());
     }
-    progress.end(bytes.len());
     Ok(bytes)
 }

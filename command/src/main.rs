@@ -1,10 +1,12 @@
 //! The command `opb`: OPB files of full size checked, listed, rewritten and solved, and solvers' answers evaluated, over the library's calls. All it adds is to read files, to run solvers, to print, and
 //! to speak to a person.
 #![forbid(unsafe_code)]
+mod advice;
 mod check;
 mod evaluate;
 mod for_solvers;
 mod header;
+mod help;
 mod input;
 mod lines;
 mod list;
@@ -16,6 +18,7 @@ mod report;
 mod rewrite;
 mod single;
 mod solve;
+mod statement;
 mod values;
 
 use clap::{CommandFactory, Parser};

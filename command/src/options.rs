@@ -1,4 +1,5 @@
 //! The words of the command line.
+use crate::help;
 use clap::{ArgGroup, Args, Parser, Subcommand};
 use clap_complete::Shell;
 use std::ffi::OsString;
@@ -15,7 +16,9 @@ pub struct Words {
 }
 
 const STATUSES: &str = "\
-Exit status: 0 accepted (evaluate: every constraint holds; solve: a plan found and checked), 1 refused, 2 wrong usage or trouble with a file or memory, 3 a constraint fails or the solver's claim is false, 4 the solver is missing, died, or its lines cannot be read, 5 the solver says that there is no plan, or has no answer in time.";
+`opb help COMMAND` says all of a command. A file has up to 1,073,741,823 bytes; - is standard input. Behind -- no word is an option.
+
+Exit status: 0 accepted (evaluate: every constraint holds; solve: a plan found and checked), 1 refused, 2 wrong usage or trouble with a file or memory, 3 a constraint fails or the solver's claim is false, 4 the solver is missing, died, or its lines cannot be read, 5 the solver says that there is no plan, or has no answer in time. Of several files, the greatest.";
 
 /// What every command takes.
 #[derive(Args, Clone)]
@@ -23,7 +26,7 @@ pub struct Common {
     /// The first index: the least number that a variable of the plan may have
     #[arg(long, value_name = "N", default_value_t = 1, global = true)]
     pub first: u32,
-    /// No progress and no remarks
+    /// No progress, no warnings and remarks, and nothing from check for an accepted file
     #[arg(short, long, global = true)]
     pub quiet: bool,
 }
@@ -39,14 +42,19 @@ pub struct Output {
 #[derive(Subcommand)]
 pub enum Task {
     /// Says of each file whether it is accepted, and what is in it; or what is wrong, line by line
+    #[command(after_long_help = help::CHECK)]
     Check(Check),
     /// Prints a line for each row, parted by tabs
+    #[command(after_long_help = help::LIST)]
     List(List),
     /// Writes the plan again with no negative weight: the same as `rewrite --negated`
+    #[command(after_long_help = help::NORMAL)]
     Normal(Normal),
     /// Writes the plan again, each row meaning what it meant, as `>=` and `=` rows alone
+    #[command(after_long_help = help::REWRITE)]
     Rewrite(Rewrite),
     /// Says which rows of the plan hold under a solver's answer
+    #[command(after_long_help = help::EVALUATE)]
     Evaluate(Evaluate),
     /// Runs a solver on the plan and judges its answer by every row
     Solve(Solve),

@@ -1,7 +1,8 @@
 //! What the command prints, and its exit status.
 use crate::options::Output;
+use std::fs::{self, File, OpenOptions, Permissions};
 use std::io::{self, ErrorKind, Write};
-use std::path::Path;
+use std::path::{Path, PathBuf};
 
 /// The exit status; of several files, the greatest counts.
 #[derive(Clone, Copy, Debug, PartialEq, Eq, PartialOrd, Ord)]
@@ -40,16 +41,56 @@ pub fn print(text: &[u8]) -> Status {
 pub fn deliver(output: &Output, text: &[u8]) -> Status {
     match &output.output {
         None => print(text),
-        Some(file) => write_whole(file, text).map_or_else(|error| trouble(&file.to_string_lossy(), &error), |()| Status::Accepted),
+        Some(file) if file == Path::new("-") || file == Path::new("/dev/stdout") => print(text),
+        Some(file) => write(file, text).map_or_else(|error| trouble(&file.to_string_lossy(), &error), |()| Status::Accepted),
     }
 }
 
-/// A file is written beside the one that it takes the place of, and takes its place once it is whole.
-fn write_whole(file: &Path, text: &[u8]) -> io::Result<()> {
-    let folder = file.parent().filter(|folder| !folder.as_os_str().is_empty()).unwrap_or_else(|| Path::new("."));
-    let mut whole = tempfile::NamedTempFile::new_in(folder)?;
+/// A file whole or not at all; a device or a pipe as it comes.
+fn write(file: &Path, text: &[u8]) -> io::Result<()> {
+    let there = match fs::metadata(file) {
+        Ok(there) => Some(there),
+        Err(error) if error.kind() == ErrorKind::NotFound => None,
+        Err(error) => return Err(error),
+    };
+    match there {
+        Some(there) if !there.is_file() || is_open_already(file) => OpenOptions::new().append(true).open(file)?.write_all(text),
+        Some(there) => {
+            // a file that may not be written is not replaced either
+            OpenOptions::new().append(true).open(file)?;
+            write_whole(&fs::canonicalize(file)?, text, Some(there.permissions()))
+        }
+        None => write_whole(&link_end(file)?, text, None),
+    }
+}
+
+/// Names of what is open already, as a shell lends it: to replace the file behind it is not what is asked for.
+fn is_open_already(file: &Path) -> bool {
+    ["/dev/fd", "/dev/stderr", "/proc"].iter().any(|folder| file.starts_with(folder))
+}
+
+fn folder_of(file: &Path) -> &Path {
+    file.parent().filter(|folder| !folder.as_os_str().is_empty()).unwrap_or_else(|| Path::new("."))
+}
+
+/// Where a link leads, also to a file that is not there yet.
+fn link_end(file: &Path) -> io::Result<PathBuf> {
+    let mut end = file.to_path_buf();
+    // metadata() has seen that the links do not go in a circle
+    while let Ok(next) = fs::read_link(&end) {
+        end = folder_of(&end).join(next);
+    }
+    Ok(end)
+}
+
+/// The file is written in a folder beside the one that it takes the place of, and takes its place once it is whole. Without permissions to keep it has those of any new file.
+fn write_whole(file: &Path, text: &[u8], permissions: Option<Permissions>) -> io::Result<()> {
+    let beside = tempfile::Builder::new().prefix(".opb-").tempdir_in(folder_of(file))?;
+    let path = beside.path().join("whole");
+    let mut whole = File::create(&path)?;
+    // before there is anything to read in it
+    permissions.map_or(Ok(()), |permissions| whole.set_permissions(permissions))?;
     whole.write_all(text)?;
-    whole.as_file().sync_all()?;
-    whole.persist(file)?;
-    Ok(())
+    whole.sync_all()?;
+    fs::rename(&path, file)
 }

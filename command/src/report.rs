@@ -1,4 +1,5 @@
 //! Refusals as a person needs them.
+use crate::advice;
 use crate::input::Input;
 use crate::lines::{lines, Line};
 use crate::output::Status;
@@ -44,8 +45,8 @@ fn shown(byte: u8) -> char {
     }
 }
 
-/// The line with its number, cut to the part near a place in it, and how far from the left edge that place is then.
-pub fn excerpt(line: &Line, at: usize) -> (String, usize) {
+/// The line's text, cut to the part near a place in it, and how far from its left edge that place is then.
+pub fn part(line: &Line, at: usize) -> (String, usize) {
     let ending = line.bytes.iter().rev().take_while(|byte| matches!(**byte, b'\n' | b'\r')).count();
     let text = &line.bytes[..line.bytes.len() - ending];
     let from = at.saturating_sub(BEFORE).min(text.len());
@@ -53,9 +54,13 @@ pub fn excerpt(line: &Line, at: usize) -> (String, usize) {
     let cut = if from > 0 { "..." } else { "" };
     let more = if to < text.len() { "..." } else { "" };
     let part: String = text[from..to].iter().copied().map(shown).collect();
-    let number = format!("  {} | {}", line.number, cut);
-    let left = number.len() + at - from;
-    (format!("{}{}{}", number, part, more), left)
+    (format!("{}{}{}", cut, part, more), cut.len() + at - from)
+}
+
+/// The same behind the line's number.
+pub fn excerpt(line: &Line, at: usize) -> (String, usize) {
+    let (number, (part, left)) = (format!("  {} | ", line.number), part(line, at));
+    (format!("{}{}", number, part), number.len() + left)
 }
 
 /// The command lends as much room as is needed, so where there is none it is memory that is missing.
@@ -81,9 +86,18 @@ fn no_memory(name: &str, refusal: &Refusal) -> Option<String> {
     Some(not_enough(name, refusal, what))
 }
 
-fn message(name: &str, refusal: &Refusal, place: &str, text: &str) -> String {
+fn message(name: &str, refusal: &Refusal, place: &str, text: &str, advice: &str) -> String {
     let reason = refusal.reason;
-    format!("{}: refused ({}){}: {}\n{}  what to do: {}\n", name, reason.number(), place, reason.meaning(), text, reason.advice())
+    format!("{}: refused ({}){}: {}\n{}  what to do: {}\n", name, reason.number(), place, reason.meaning(), text, advice)
+}
+
+/// Of a refusal at a byte of this line.
+pub fn of_line(input: &Input, line: &Line, refusal: &Refusal) -> String {
+    let at = refusal.place as usize - line.start;
+    let (text, left) = excerpt(line, at);
+    let place = format!(" at line {}, column {}", line.number, at + 1);
+    let marked = format!("{}\n{}^\n", text.trim_end(), " ".repeat(left));
+    message(&input.name, refusal, &place, &marked, &advice::of(&input.bytes, line, refusal))
 }
 
 /// Of a file that was refused: the place is a byte of it.
@@ -91,15 +105,11 @@ pub fn of_file(input: &Input, refusal: &Refusal) -> String {
     if let Some(text) = no_memory(&input.name, refusal) {
         return text;
     }
-    let place = refusal.place as usize;
-    match line_at(&input.bytes, place) {
-        Some(line) if refusal.reason != Reason::FileLength => {
-            let at = place - line.start;
-            let (text, left) = excerpt(&line, at);
-            let place = format!(" at line {}, column {}", line.number, at + 1);
-            message(&input.name, refusal, &place, &format!("{}\n{}^\n", text.trim_end(), " ".repeat(left)))
-        }
-        _ => message(&input.name, refusal, "", ""),
+    // what is too long has no line at fault
+    let line = if refusal.reason == Reason::FileLength { None } else { line_at(&input.bytes, refusal.place as usize) };
+    match line {
+        Some(line) => of_line(input, &line, refusal),
+        None => message(&input.name, refusal, "", "", refusal.reason.advice()),
     }
 }
 
@@ -117,7 +127,7 @@ pub fn of_row(input: &Input, first: u32, refusal: &Refusal) -> String {
         return text;
     }
     let (place, text) = row_place(input, first, refusal.place);
-    message(&input.name, refusal, &place, &text)
+    message(&input.name, refusal, &place, &text, refusal.reason.advice())
 }
 
 /// Of a plan with several objectives, which no solver takes: the lines of the first of them.
@@ -139,7 +149,7 @@ pub fn variable(index: u32, first: u32) -> String {
 pub fn of_unknown(input: &Input, first: u32, refusal: &Refusal, unknown: Option<u32>) -> String {
     let (place, text) = row_place(input, first, refusal.place);
     let unknown = unknown.map_or(String::new(), |index| format!("  {} has no value\n", variable(index, first)));
-    message(&input.name, refusal, &place, &(text + &unknown))
+    message(&input.name, refusal, &place, &(text + &unknown), refusal.reason.advice())
 }
 
 /// Of the constraints that fail, with the first of them.

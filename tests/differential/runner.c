@@ -1,5 +1,5 @@
-/* Calls the library for the driver of the differential run. Reads batches of calls on standard input and writes their answers on standard output, so that this is the only part that has to run as an
- * x86-64 program. A batch is its length in bytes as 4 bytes, then that many bytes; an answer likewise. Numbers have the byte order of x86-64, and no padding between them.
+/* Calls the library for the driver of the differential run. Reads batches of calls on standard input and writes their answers on standard output: the library
+ * is called from C, as include/opb.h has it, and apart from the Rust. A batch is its length in bytes as 4 bytes, then that many bytes; an answer likewise. Numbers have their lowest byte first, and no padding between them.
  *
  *   read   1, first:4, six column lengths:4, assignments:4, file length:4, the file, assignments of WORDS words
  *          -> answers of opb_count and opb_read, touched:1, the columns if accepted; then, if it was accepted: answer of opb_normalise, touched:1, its columns if accepted;

@@ -5,7 +5,8 @@
 #include <sys/mman.h>
 #include "fuzz.h"
 
-enum { PAGE = 4096 };
+/* no processor's pages are longer */
+enum { PAGE = 1 << 16 };
 
 /* between two forbidden pages TEXT bytes, of which `size` from `at` on are lent */
 static struct {

@@ -364,6 +364,98 @@ static void refuses_to_list(void) {
     check(memcmp(out, before, sizeof out) == 0, "a refused listing changes no byte");
 }
 
+/* ---- columns in one struct: the same answers, and the sizes that a filled table has */
+
+static opb_columns columns_of(table *t, size_t rows, size_t terms) {
+    opb_columns c = {t->kinds, t->firsts, t->counts, t->bounds, t->weights, t->literals, rows, terms};
+    return c;
+}
+
+static void reads_into_a_struct(void) {
+    table t = blank(), same = blank();
+    opb_columns c = columns_of(&t, ROOM, ROOM - 1);
+    read_text(PLAN, 1, &same, ROOM, ROOM);
+    check(is_table(opb_columns_read((const uint8_t *)PLAN, strlen(PLAN), 1, &c), 4, 4), "the plan is read into a struct");
+    check(c.rows == 4 && c.terms == 4 && memcmp(&t, &same, sizeof t) == 0, "the struct holds the table that was read");
+    check(table_refused(opb_columns_read((const uint8_t *)"x", 1, 1, &c), OPB_REFUSED_STATEMENT, 0), "a refused file");
+    check(table_refused(opb_columns_read((const uint8_t *)"1 x0 >= 1;", 10, 1, &c), OPB_REFUSED_VARIABLE, 0), "a file with another first index");
+    c.rows = 3;
+    check(table_refused(opb_columns_read((const uint8_t *)PLAN, strlen(PLAN), 1, &c), OPB_REFUSED_ROWS, 4), "a struct without room for the rows");
+    c.rows = 5, c.terms = 3;
+    check(table_refused(opb_columns_read((const uint8_t *)PLAN, strlen(PLAN), 1, &c), OPB_REFUSED_TERMS, 4), "a struct without room for the terms");
+    check(c.rows == 5 && c.terms == 3 && memcmp(&t, &same, sizeof t) == 0, "a refused file changes nothing of a struct");
+}
+
+static void normalises_a_struct(void) {
+    table t = blank(), n = blank(), same = blank();
+    opb_columns c = columns_of(&t, ROOM, ROOM), into = columns_of(&n, ROOM, ROOM - 1);
+    opb_columns_read((const uint8_t *)PLAN, strlen(PLAN), 1, &c);
+    opb_normalise(COLUMNS(t, 4, 4), COLUMNS(same, ROOM, ROOM));
+    check(is_table(opb_columns_normalise(&c, &into), 4, 4), "a struct is normalised");
+    check(into.rows == 4 && into.terms == 4 && memcmp(&n, &same, sizeof n) == 0, "the struct holds the normal table");
+    into.terms = 3;
+    check(table_refused(opb_columns_normalise(&c, &into), OPB_REFUSED_TERMS, 4), "a struct without room for normal terms");
+    into.rows = 3;
+    check(table_refused(opb_columns_normalise(&c, &into), OPB_REFUSED_ROWS, 4), "a struct without room for normal rows");
+    check(into.rows == 3 && into.terms == 3 && memcmp(&n, &same, sizeof n) == 0, "a refused normalising changes nothing of a struct");
+}
+
+static void evaluates_a_struct(void) {
+    const uint64_t values[] = {5}, two[] = {3, ~(uint64_t)0};
+    table t = blank();
+    opb_columns c = columns_of(&t, ROOM, ROOM);
+    opb_columns_read((const uint8_t *)PLAN, strlen(PLAN), 1, &c);
+    check(is_value(opb_columns_evaluate(&c, 1, values, 1), 1, 1, 2), "a struct's row holds");
+    check(is_value(opb_columns_evaluate(&c, 3, values, 1), 1, 0, 2), "a struct's row does not");
+    check(is_value(opb_columns_evaluate(&c, 2, values, 1), 4, 2, 2), "a struct's objective");
+    check(value_refused(opb_columns_evaluate(&c, 4, values, 1), OPB_REFUSED_ROW, 4), "a row behind those that were read");
+    check(value_refused(opb_columns_evaluate(&c, 1, values, 0), OPB_REFUSED_ASSIGNMENT, 1), "a struct's row without words");
+    check(is_value(opb_columns_evaluate_known(&c, 3, values, 1, two, 2), 1, 0, 1), "a struct's row where its variables are known");
+    check(value_refused(opb_columns_evaluate_known(&c, 2, values, 1, two, 2), OPB_REFUSED_ASSIGNMENT, 2), "a struct's row where one is not");
+    check(value_refused(opb_columns_evaluate_known(&c, 3, values, 1, two, 0), OPB_REFUSED_ASSIGNMENT, 3), "a struct's row where none is");
+}
+
+static void writes_and_lists_a_struct(void) {
+    const char *plan = "* hall\n3 x1 2 x2 <= 4;\nmin: 4 ~x1 1 x3;\n";
+    const char *lines = "opb\t3\t4\t1\nc\t4\nle\t4\t3\tx1\t2\tx2\nmin\t0\t4\t~x1\t1\tx3\n";
+    const uint8_t *text = (const uint8_t *)plan;
+    table t = blank();
+    opb_columns c = columns_of(&t, ROOM, ROOM);
+    opb_columns_read(text, strlen(plan), 1, &c);
+    check(is_text(opb_columns_write(&c, text, strlen(plan), 1, 0, out, sizeof out), "* hall\n3 ~x1 2 ~x2 >= 1;\nmin: 4 ~x1 1 x3;\n"), "a struct is written");
+    check(is_text(opb_columns_write(&c, text, strlen(plan), 0, 1, out, sizeof out),
+                  "* hall\n-3 x0 -2 x1 >= -4;\nmin: -4 x0 1 x2;\n* objective offset for previous objective: 4\n"),
+          "a struct is written without negated literals, from x0");
+    check(text_refused(opb_columns_write(&c, text, 5, 1, 0, out, sizeof out), OPB_REFUSED_ROW, 0), "a comment outside its text");
+    check(text_refused(opb_columns_write(&c, text, strlen(plan), 1, 0, out, 41), OPB_REFUSED_OUTPUT, 42), "the length that a struct needs");
+    check(is_text(opb_columns_list(&c, 1, out, sizeof out), lines), "a struct is listed");
+    check(text_refused(opb_columns_list(&c, 1, out, 0), OPB_REFUSED_OUTPUT, strlen(lines)), "the length that its lines need");
+}
+
+/* ---- words */
+
+/* Each number of a refusal has words of its own; all others have the same. */
+static void has_words_for_refusals(void) {
+    static const uint8_t numbers[] = {0, 1, 2, 3, 4, 5, 6, 7, 8, 9, 10, 11, 12, 13, 14, 15, 20, 21, 22, 16};
+    const size_t count = sizeof numbers;
+    for (size_t i = 0; i < count; i++) {
+        int own = strlen(opb_message(numbers[i])) > 0;
+        for (size_t j = 0; j < i; j++) own = own && strcmp(opb_message(numbers[i]), opb_message(numbers[j])) != 0;
+        check(own, opb_message(numbers[i]));
+    }
+    for (unsigned other = 17; other < 256; other++) {
+        if (other == 20) other = 23;
+        check(strcmp(opb_message((uint8_t)other), opb_message(16)) == 0, "a number that is no refusal");
+    }
+    check(strcmp(opb_message(OPB_REFUSED_OPERATOR), "no operator stands behind the sum") == 0, "the words of a refusal");
+}
+
+static void has_a_version(void) {
+    char version[32];
+    snprintf(version, sizeof version, "%d.%d.%d", OPB_VERSION_MAJOR, OPB_VERSION_MINOR, OPB_VERSION_PATCH);
+    check(strcmp(version, OPB_VERSION) == 0, "the version's parts and its text");
+}
+
 int main(void) {
     check(sizeof(opb_table) == 32 && sizeof(opb_text) == 24 && sizeof(opb_length) == 24 && sizeof(opb_value) == 40, "sizes of the answers");
     reads_the_plan();
@@ -382,6 +474,12 @@ int main(void) {
     refuses_to_write();
     lists();
     refuses_to_list();
+    reads_into_a_struct();
+    normalises_a_struct();
+    evaluates_a_struct();
+    writes_and_lists_a_struct();
+    has_words_for_refusals();
+    has_a_version();
     printf("%d passed, %d failed\n", passed, failed);
     return failed != 0;
 }

@@ -3,26 +3,52 @@ use std::error::Error;
 use std::fmt;
 
 /// Why a call was refused. The numbers are those of `include/opb.h`.
+///
+/// ```
+/// use opb::Reason;
+/// assert_eq!(Reason::of(6), Some(Reason::Operator));
+/// assert_eq!(Reason::Operator.meaning(), "no operator stands behind the sum of this statement");
+/// assert_eq!(Reason::Operator.advice(), "write `>=`, `<=`, `=`, `>` or `<` behind the last term");
+/// ```
 #[derive(Clone, Copy, Debug, PartialEq, Eq)]
 #[non_exhaustive]
 pub enum Reason {
+    /// The file is longer than [`FILE_LIMIT`](crate::FILE_LIMIT).
     FileLength = 1,
+    /// No statement begins there; a blank line is none.
     Statement = 2,
+    /// A number is missing, is a sign alone, or is beyond 64 bits.
     Number = 3,
+    /// No blank behind a weight, or no variable there.
     Literal = 4,
+    /// A variable's number is below the first index, or too large.
     Variable = 5,
+    /// No operator behind the sum.
     Operator = 6,
+    /// The statement does not end where it should.
     Ending = 7,
+    /// The weights of a row add up to more than 9,223,372,036,854,775,807, or a result is beyond 64 bits.
     Overflow = 8,
+    /// There is no room for the rows.
     Rows = 9,
+    /// There is no room for the terms.
     Terms = 10,
+    /// A row that no table may hold: an unknown kind, terms outside their column, an index above its limit; in writing also a comment outside its text, a negative weight or cardinality bound; in
+    /// evaluating also a comment or a missing row.
     Row = 11,
+    /// A variable has no value in the assignment; or the words are too few for the value lines.
     Assignment = 12,
+    /// A constraint without terms, in writing.
     Empty = 13,
+    /// The output has no room for the text.
     Output = 14,
+    /// A comment with a line feed, in writing.
     Comment = 15,
+    /// No value lines, or a line among them that does not begin with `v`.
     Line = 20,
+    /// A token that is no value in the form of these value lines.
     Token = 21,
+    /// A variable that has the other value already.
     Conflict = 22,
 }
 
@@ -48,6 +74,7 @@ const ALL: [Reason; 18] = [
 ];
 
 impl Reason {
+    /// Its number in `include/opb.h`.
     pub fn number(self) -> u8 {
         self as u8
     }
@@ -107,9 +134,12 @@ impl Reason {
 }
 
 /// A refused call. The place is, by reason and call, the offset of a statement in the file, that of a line or token in a block of value lines, a row, or the count or length needed.
+/// Of a place in a file [`position`](crate::position) tells line and column.
 #[derive(Clone, Copy, Debug, PartialEq, Eq)]
 pub struct Refusal {
+    /// Why.
     pub reason: Reason,
+    /// Where, or how much is needed.
     pub place: u64,
 }
 

@@ -1,51 +1,72 @@
 //! Tables as six vectors, and the calls over them with room made to measure.
 use crate::assignment::Assignment;
 use crate::ffi;
+use crate::kinds::Kind;
 use crate::refusal::{Reason, Refusal};
-
-/// The numbers in the column of kinds. Reading makes the first five; only writing knows the others.
-pub mod kind {
-    pub const COMMENT: u8 = 0;
-    pub const AT_LEAST: u8 = 1;
-    pub const AT_MOST: u8 = 2;
-    pub const EQUAL: u8 = 3;
-    pub const OBJECTIVE: u8 = 4;
-    pub const CLAUSE: u8 = 5;
-    pub const CARDINALITY_AT_LEAST: u8 = 6;
-    pub const CARDINALITY_AT_MOST: u8 = 7;
-    pub const CARDINALITY_EQUAL: u8 = 8;
-}
+use std::ops::Range;
 
 /// Rows and terms of a table.
 #[derive(Clone, Copy, Debug, PartialEq, Eq)]
 pub struct Size {
+    /// Comments, constraints and objectives.
     pub rows: usize,
+    /// The terms of all rows.
     pub terms: usize,
 }
 
 /// What a row says of an assignment, with the number of ones in the assignment's words.
 #[derive(Clone, Copy, Debug, PartialEq, Eq)]
 pub enum Value {
-    Constraint { sum: i64, holds: bool, ones: u64 },
-    Objective { value: i64, ones: u64 },
+    /// Of a constraint.
+    Constraint {
+        /// The weights of the literals that are true.
+        sum: i64,
+        /// Whether the sum keeps the bound.
+        holds: bool,
+        /// The variables that are true, in all of the assignment.
+        ones: u64,
+    },
+    /// Of an objective.
+    Objective {
+        /// The weights of the literals that are true, and the offset.
+        value: i64,
+        /// The variables that are true, in all of the assignment.
+        ones: u64,
+    },
 }
 
-/// How negated literals are written: as `~x1`, or by a weight of the other sign on the plain variable.
+/// How negated literals are written.
 #[derive(Clone, Copy, Debug, PartialEq, Eq)]
 pub enum Literals {
+    /// As `~x1`.
     Negated,
+    /// By a weight of the other sign on the plain variable.
     Plain,
 }
 
 /// Six columns: four with an entry for each row, two with an entry for each term. A literal is twice the variable index, plus 1 if negated; the index is the number in the file less the first
-/// index. A comment row's first and count are the offset and length of its text.
+/// index. A comment row's first and count are the offset and length of its text. [`Table::rows`] gives them with Rust's types; every content of the columns has an answer in every call.
+///
+/// ```
+/// use opb::{Kind, Literals, Table};
+/// let mut table = Table::default();
+/// table.push(Kind::Clause, 1, &[(1, 0), (1, 3)]);
+/// assert_eq!(table.write(b"", 1, Literals::Negated)?, b"1 x1 1 ~x2 >= 1;\n");
+/// # Ok::<(), opb::Refusal>(())
+/// ```
 #[derive(Clone, Debug, Default, PartialEq, Eq)]
 pub struct Table {
+    /// For each row the number of its [`Kind`].
     pub kinds: Vec<u8>,
+    /// For each row its first term, from 0; for a comment the offset of its text.
     pub firsts: Vec<usize>,
+    /// For each row how many terms it has; for a comment the length of its text.
     pub counts: Vec<usize>,
+    /// For each row its bound; for an objective its offset; for a comment 0.
     pub bounds: Vec<i64>,
+    /// For each term its weight.
     pub weights: Vec<i64>,
+    /// For each term the code of its [`Literal`](crate::Literal).
     pub literals: Vec<u32>,
 }
 
@@ -71,11 +92,23 @@ fn measured(put: impl Fn(&mut [u8]) -> Result<usize, Refusal>) -> Result<Vec<u8>
 }
 
 /// The rows and terms that a file has. `first` is the first index.
+///
+/// ```
+/// assert_eq!(opb::count(b"3 x1 2 x2 <= 4;\n", 1)?, opb::Size { rows: 1, terms: 2 });
+/// assert_eq!(opb::count(b"3 x0 >= 1;\n", 1).unwrap_err().reason, opb::Reason::Variable);
+/// # Ok::<(), opb::Refusal>(())
+/// ```
 pub fn count(file: &[u8], first: u32) -> Result<Size, Refusal> {
     ffi::count(file, first)
 }
 
 /// A file's rows: counted, then read into columns of just that size. Where there is no memory for them, the refusal is 9 or 10.
+///
+/// ```
+/// let table = opb::read(b"3 x1 -2 ~x2 >= 1;\n", 1)?;
+/// assert_eq!((table.bounds, table.weights, table.literals), (vec![1], vec![3, -2], vec![0, 3]));
+/// # Ok::<(), opb::Refusal>(())
+/// ```
 pub fn read(file: &[u8], first: u32) -> Result<Table, Refusal> {
     let mut table = Table::of_size(count(file, first)?)?;
     table.read_into(file, first)?;
@@ -102,14 +135,29 @@ impl Table {
         Size { rows: self.kinds.len().min(self.firsts.len()).min(self.counts.len()).min(self.bounds.len()), terms: self.weights.len().min(self.literals.len()) }
     }
 
-    /// One row more, of these terms: weight and literal.
-    pub fn push(&mut self, kind: u8, bound: i64, terms: &[(i64, u32)]) {
-        self.kinds.push(kind);
+    /// One row more, of these terms: weight and literal code.
+    pub fn push(&mut self, kind: Kind, bound: i64, terms: &[(i64, u32)]) {
+        self.kinds.push(kind.number());
         self.firsts.push(self.weights.len());
         self.counts.push(terms.len());
         self.bounds.push(bound);
         self.weights.extend(terms.iter().map(|term| term.0));
         self.literals.extend(terms.iter().map(|term| term.1));
+    }
+
+    /// A comment row more, whose text is this range of what will be lent to [`Table::write`].
+    ///
+    /// ```
+    /// let mut table = opb::Table::default();
+    /// table.push_comment(4..8);
+    /// assert_eq!(table.write(b"The hall.", 1, opb::Literals::Plain)?, b"* hall\n");
+    /// # Ok::<(), opb::Refusal>(())
+    /// ```
+    pub fn push_comment(&mut self, text: Range<usize>) {
+        self.kinds.push(Kind::Comment.number());
+        self.firsts.push(text.start);
+        self.counts.push(text.len());
+        self.bounds.push(0);
     }
 
     /// A file into the columns as they are; entries behind the size answered stay.
@@ -118,6 +166,12 @@ impl Table {
     }
 
     /// The same rows without negative weights.
+    ///
+    /// ```
+    /// let normal = opb::read(b"3 x1 -2 x2 >= -1;\n", 1)?.normal()?;
+    /// assert_eq!(normal.write(b"", 1, opb::Literals::Negated)?, b"3 x1 2 ~x2 >= 1;\n");
+    /// # Ok::<(), opb::Refusal>(())
+    /// ```
     pub fn normal(&self) -> Result<Table, Refusal> {
         let mut normal = Table::of_size(self.size())?;
         match self.normal_into(&mut normal) {
@@ -138,6 +192,13 @@ impl Table {
     }
 
     /// One row under an assignment: variable index v is bit v mod 64 of word v / 64.
+    ///
+    /// ```
+    /// let table = opb::read(b"3 x1 2 x2 <= 4;\nmin: 4 ~x1;\n", 1)?;
+    /// assert_eq!(table.evaluate(0, &[0b11])?, opb::Value::Constraint { sum: 5, holds: false, ones: 2 });
+    /// assert_eq!(table.evaluate(1, &[0b10])?, opb::Value::Objective { value: 4, ones: 1 });
+    /// # Ok::<(), opb::Refusal>(())
+    /// ```
     pub fn evaluate(&self, row: usize, words: &[u64]) -> Result<Value, Refusal> {
         ffi::evaluate(self, row, words)
     }
@@ -153,10 +214,40 @@ impl Table {
     /// # Ok::<(), opb::Refusal>(())
     /// ```
     pub fn evaluate_known(&self, row: usize, assignment: &Assignment) -> Result<Value, Refusal> {
-        ffi::evaluate_known(self, row, assignment)
+        ffi::evaluate_known(self, row, &assignment.values, &assignment.known)
+    }
+
+    /// The same row, sum, truth and refusal, over the words up to the row's highest variable alone, whose ones are counted: each row costs time for every word that it is lent, so where there are many
+    /// rows and many variables this is the call to make.
+    ///
+    /// ```
+    /// let table = opb::read(b"3 x1 2 x2 <= 4;\n1 x100 >= 1;\n", 1)?;
+    /// let mut assignment = opb::Assignment::new();
+    /// assignment.extend(b"v x1 -x2 x100")?;
+    /// assert_eq!(table.evaluate_front(0, &assignment)?, opb::Value::Constraint { sum: 3, holds: true, ones: 1 });
+    /// assert_eq!(table.evaluate_front(1, &assignment)?, opb::Value::Constraint { sum: 1, holds: true, ones: 2 });
+    /// # Ok::<(), opb::Refusal>(())
+    /// ```
+    pub fn evaluate_front(&self, row: usize, assignment: &Assignment) -> Result<Value, Refusal> {
+        let words = self.words_of(row).unwrap_or(usize::MAX).min(assignment.values.len());
+        ffi::evaluate_known(self, row, &assignment.values[..words], &assignment.known[..words])
+    }
+
+    /// How many words the variables of a row need; none, where the table has no such row or not its terms.
+    fn words_of(&self, row: usize) -> Option<usize> {
+        let (first, count) = (*self.firsts.get(row)?, *self.counts.get(row)?);
+        let terms = self.literals.get(first..first.checked_add(count)?)?;
+        Some(terms.iter().max().map_or(0, |literal| *literal as usize / 128 + 1))
     }
 
     /// The rows as lines of an OPB file. Comment rows point into `text`: for rows that were read, the file.
+    ///
+    /// ```
+    /// let file = b"* hall\n3 x1 2 x2 <= 4;\n";
+    /// let table = opb::read(file, 1)?;
+    /// assert_eq!(table.write(file, 1, opb::Literals::Negated)?, b"* hall\n3 ~x1 2 ~x2 >= 1;\n");
+    /// # Ok::<(), opb::Refusal>(())
+    /// ```
     pub fn write(&self, text: &[u8], first: u32, literals: Literals) -> Result<Vec<u8>, Refusal> {
         measured(|out| self.write_into(text, first, literals, out))
     }
@@ -167,6 +258,12 @@ impl Table {
     }
 
     /// The rows as the lines of the listing, parted by tabs.
+    ///
+    /// ```
+    /// let table = opb::read(b"* hall\n3 x1 -2 ~x2 < 4\n", 1)?;
+    /// assert_eq!(table.list(1)?, b"opb\t2\t2\t1\nc\t4\nle\t3\t3\tx1\t-2\t~x2\n");
+    /// # Ok::<(), opb::Refusal>(())
+    /// ```
     pub fn list(&self, first: u32) -> Result<Vec<u8>, Refusal> {
         measured(|out| self.list_into(first, out))
     }

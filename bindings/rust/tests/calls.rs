@@ -1,5 +1,5 @@
 //! Each call of the library: what it answers, each refusal with its place, and that a refused call changes nothing.
-use opb::{count, kind, read, Assignment, Literals, Reason, Refusal, Size, Table, Value};
+use opb::{count, position, read, Assignment, Kind, Literal, Literals, Position, Reason, Refusal, Row, Size, Table, Value};
 
 const PLAN: &[u8] = b"* budget\n3 x1 -2 ~x2 >= 1;\nmin: 4 x3;\n1 x1 < 1\n";
 
@@ -12,7 +12,7 @@ fn marked(rows: usize, terms: usize) -> Table {
     Table { kinds: vec![170; rows], firsts: vec![170; rows], counts: vec![170; rows], bounds: vec![170; rows], weights: vec![170; terms], literals: vec![170; terms] }
 }
 
-fn one_row(kind: u8, bound: i64, terms: &[(i64, u32)]) -> Table {
+fn one_row(kind: Kind, bound: i64, terms: &[(i64, u32)]) -> Table {
     let mut table = Table::default();
     table.push(kind, bound, terms);
     table
@@ -22,7 +22,7 @@ fn one_row(kind: u8, bound: i64, terms: &[(i64, u32)]) -> Table {
 fn a_file_is_read_into_columns_of_its_size() {
     let table = read(PLAN, 1).unwrap();
     assert_eq!(count(PLAN, 1), Ok(Size { rows: 4, terms: 4 }));
-    assert_eq!(table.kinds, [kind::COMMENT, kind::AT_LEAST, kind::OBJECTIVE, kind::AT_MOST]);
+    assert_eq!(table.kinds, [Kind::Comment, Kind::AtLeast, Kind::Objective, Kind::AtMost].map(Kind::number));
     assert_eq!(table.firsts, [2, 0, 2, 3]);
     assert_eq!(table.counts, [6, 2, 1, 1]);
     assert_eq!(table.bounds, [0, 1, 0, 0]);
@@ -86,26 +86,26 @@ fn normal_rows_have_no_negative_weight() {
 
 #[test]
 fn normal_tables_have_the_room_they_need() {
-    let mut shared = one_row(kind::AT_LEAST, 1, &[(-1, 0), (2, 2)]);
-    shared.push(kind::AT_MOST, 1, &[]);
+    let mut shared = one_row(Kind::AtLeast, 1, &[(-1, 0), (2, 2)]);
+    shared.push(Kind::AtMost, 1, &[]);
     shared.firsts[1] = 0;
     shared.counts[1] = 2;
     assert_eq!(shared.normal().unwrap().weights, [1, 2, 1, 2]);
-    let mut unused = one_row(kind::AT_LEAST, 1, &[(-1, 0), (2, 2)]);
+    let mut unused = one_row(Kind::AtLeast, 1, &[(-1, 0), (2, 2)]);
     unused.counts[0] = 1;
     assert_eq!(unused.normal().unwrap().weights, [1]);
 }
 
 #[test]
 fn each_refusal_of_normalising_has_its_place() {
-    let cases = [(one_row(kind::CLAUSE, 1, &[(1, 0)]), Reason::Row), (one_row(kind::AT_LEAST, 1, &[(1, u32::MAX)]), Reason::Row), (one_row(kind::AT_LEAST, i64::MAX, &[(-1, 0)]), Reason::Overflow)];
+    let cases = [(one_row(Kind::Clause, 1, &[(1, 0)]), Reason::Row), (one_row(Kind::AtLeast, 1, &[(1, u32::MAX)]), Reason::Row), (one_row(Kind::AtLeast, i64::MAX, &[(-1, 0)]), Reason::Overflow)];
     for (table, reason) in cases {
         let mut normal = marked(1, 1);
         assert_eq!(table.normal(), refusal(reason, 0));
         assert_eq!(table.normal_into(&mut normal), refusal(reason, 0));
         assert_eq!(normal, marked(1, 1));
     }
-    let table = one_row(kind::AT_LEAST, 0, &[(-1, 0)]);
+    let table = one_row(Kind::AtLeast, 0, &[(-1, 0)]);
     assert_eq!(table.normal_into(&mut marked(0, 1)), refusal(Reason::Rows, 1));
     assert_eq!(table.normal_into(&mut marked(1, 0)), refusal(Reason::Terms, 1));
 }
@@ -119,7 +119,7 @@ fn a_row_is_evaluated() {
     assert_eq!(table.evaluate(0, &[5]), refusal(Reason::Row, 0));
     assert_eq!(table.evaluate(4, &[5]), refusal(Reason::Row, 4));
     assert_eq!(table.evaluate(1, &[]), refusal(Reason::Assignment, 1));
-    assert_eq!(one_row(kind::OBJECTIVE, i64::MAX, &[(1, 0)]).evaluate(0, &[1]), refusal(Reason::Overflow, 0));
+    assert_eq!(one_row(Kind::Objective, i64::MAX, &[(1, 0)]).evaluate(0, &[1]), refusal(Reason::Overflow, 0));
 }
 
 /// What these blocks say, one after the other.
@@ -208,15 +208,30 @@ fn a_row_is_evaluated_where_its_variables_are_known() {
 }
 
 #[test]
+fn over_the_words_in_front_a_row_says_the_same_with_other_ones() {
+    let mut table = opb::read(b"* far\n1 x1 -2 x64 >= -1;\n1 ~x65 >= 1;\nmin: 4 x200;\n1 x201 >= 0;\n", 1).unwrap();
+    let known = assignment(&[b"v x1 x64 -x65 x200"]);
+    assert_eq!(table.evaluate_front(1, &known), Ok(Value::Constraint { sum: -1, holds: true, ones: 2 }));
+    assert_eq!(table.evaluate_front(2, &known), Ok(Value::Constraint { sum: 1, holds: true, ones: 2 }));
+    assert_eq!(table.evaluate_front(3, &known), Ok(Value::Objective { value: 4, ones: 3 }));
+    assert_eq!(table.evaluate_front(4, &known), refusal(Reason::Assignment, 4));
+    assert_eq!(table.evaluate_front(1, &Assignment::new()), refusal(Reason::Assignment, 1));
+    assert_eq!(table.evaluate_front(0, &known), refusal(Reason::Row, 0));
+    assert_eq!(table.evaluate_front(5, &known), refusal(Reason::Row, 5));
+    table.firsts[1] = usize::MAX;
+    assert_eq!(table.evaluate_front(1, &known), refusal(Reason::Row, 1));
+}
+
+#[test]
 fn rows_are_written_in_both_modes() {
     let file = b"* hall\n3 x1 2 x2 <= 4;\nmin: 4 ~x1 1 x3;\n1 x1 = 1;";
     let table = read(file, 1).unwrap();
     assert_eq!(table.write(file, 1, Literals::Negated).unwrap(), b"* hall\n3 ~x1 2 ~x2 >= 1;\nmin: 4 ~x1 1 x3;\n1 x1 = 1;\n");
     assert_eq!(table.write(file, 1, Literals::Plain).unwrap(), b"* hall\n-3 x1 -2 x2 >= -4;\nmin: -4 x1 1 x3;\n* objective offset for previous objective: 4\n1 x1 = 1;\n");
-    let clause = one_row(kind::CLAUSE, 0, &[(0, 0), (0, 3)]);
+    let clause = one_row(Kind::Clause, 0, &[(0, 0), (0, 3)]);
     assert_eq!(clause.write(b"", 1, Literals::Negated).unwrap(), b"1 x1 1 ~x2 >= 1;\n");
     assert_eq!(clause.write(b"", 1, Literals::Plain).unwrap(), b"1 x1 -1 x2 >= 0;\n");
-    assert_eq!(one_row(kind::CARDINALITY_AT_MOST, 1, &[(0, 0), (0, 2)]).write(b"", 0, Literals::Negated).unwrap(), b"1 ~x0 1 ~x1 >= 1;\n");
+    assert_eq!(one_row(Kind::CardinalityAtMost, 1, &[(0, 0), (0, 2)]).write(b"", 0, Literals::Negated).unwrap(), b"1 ~x0 1 ~x1 >= 1;\n");
     assert_eq!(Table::default().write(b"", 1, Literals::Plain), Ok(Vec::new()));
 }
 
@@ -241,12 +256,12 @@ fn holds(table: &Table, row: usize, words: &[u64]) -> bool {
 #[test]
 fn each_refusal_of_writing_has_its_place() {
     let cases = [
-        (one_row(kind::AT_LEAST, 0, &[(-1, 0)]), Reason::Row),
-        (one_row(kind::AT_LEAST, 0, &[]), Reason::Empty),
-        (one_row(kind::AT_LEAST, 0, &[(1, u32::MAX - 1)]), Reason::Row),
-        (one_row(kind::AT_MOST, i64::MIN, &[(1, 0)]), Reason::Overflow),
-        (Table { counts: vec![3], ..one_row(kind::COMMENT, 0, &[]) }, Reason::Comment),
-        (Table { counts: vec![4], ..one_row(kind::COMMENT, 0, &[]) }, Reason::Row),
+        (one_row(Kind::AtLeast, 0, &[(-1, 0)]), Reason::Row),
+        (one_row(Kind::AtLeast, 0, &[]), Reason::Empty),
+        (one_row(Kind::AtLeast, 0, &[(1, u32::MAX - 1)]), Reason::Row),
+        (one_row(Kind::AtMost, i64::MIN, &[(1, 0)]), Reason::Overflow),
+        (Table { counts: vec![3], ..one_row(Kind::Comment, 0, &[]) }, Reason::Comment),
+        (Table { counts: vec![4], ..one_row(Kind::Comment, 0, &[]) }, Reason::Row),
     ];
     for (table, reason) in cases {
         let mut out = [170; 64];
@@ -254,7 +269,7 @@ fn each_refusal_of_writing_has_its_place() {
         assert_eq!(table.write_into(b"a\nb", 1, Literals::Negated, &mut out), refusal(reason, 0));
         assert_eq!(out, [170; 64]);
     }
-    let table = one_row(kind::AT_LEAST, 0, &[(1, 2)]);
+    let table = one_row(Kind::AtLeast, 0, &[(1, 2)]);
     assert_eq!(table.write(b"", u32::MAX, Literals::Negated), refusal(Reason::Variable, 0));
     assert_eq!(table.write_into(b"", 1, Literals::Negated, &mut [0; 10]), refusal(Reason::Output, 11));
     assert_eq!(table.write_into(b"", 1, Literals::Negated, &mut [0; 12]), Ok(11));
@@ -266,7 +281,7 @@ fn rows_are_listed() {
     let lines = b"opb\t4\t4\t1\nc\t6\nge\t1\t3\tx1\t-2\t~x2\nmin\t0\t4\tx3\nle\t0\t1\tx1\n";
     assert_eq!(table.list(1).unwrap(), lines);
     assert_eq!(table.list_into(1, &mut [0; 9]), refusal(Reason::Output, lines.len() as u64));
-    assert_eq!(one_row(kind::CLAUSE, 1, &[]).list(1), refusal(Reason::Row, 0));
+    assert_eq!(one_row(Kind::Clause, 1, &[]).list(1), refusal(Reason::Row, 0));
 }
 
 #[test]
@@ -285,4 +300,126 @@ fn refusals_say_number_place_meaning_and_what_to_do() {
         assert!(Refusal { reason, place: 7 }.to_string().starts_with(&format!("refused ({}) ", number)));
     }
     assert_eq!([0, 16, 19, 23].map(Reason::of), [None; 4]);
+}
+
+#[test]
+fn kinds_have_the_numbers_of_the_header() {
+    let kinds = (0..=8).map(|number| Kind::of(number).unwrap());
+    assert!(kinds.enumerate().all(|(number, kind)| kind.number() as usize == number && u8::from(kind) as usize == number));
+    assert_eq!([9, 170, 255].map(Kind::of), [None; 3]);
+    assert_eq!((0..=8).filter(|number| Kind::of(*number).unwrap().is_constraint()).collect::<Vec<_>>(), [1, 2, 3, 5, 6, 7, 8]);
+}
+
+/// A row in words: kind, bound, and weight, sign and number of each term.
+fn told_row(row: Row) -> (Option<Kind>, i64, Vec<(i64, bool, u64)>) {
+    (row.kind, row.bound, row.terms.map(|term| (term.weight, term.literal.is_negated(), term.literal.number(1))).collect())
+}
+
+#[test]
+fn rows_come_in_order_from_both_ends() {
+    let table = read(PLAN, 1).unwrap();
+    let rows: Vec<_> = table.rows().map(told_row).collect();
+    assert_eq!(rows[0], (Some(Kind::Comment), 0, vec![]));
+    assert_eq!(rows[1], (Some(Kind::AtLeast), 1, vec![(3, false, 1), (-2, true, 2)]));
+    assert_eq!(rows[2..], [(Some(Kind::Objective), 0, vec![(4, false, 3)]), (Some(Kind::AtMost), 0, vec![(1, false, 1)])]);
+    assert_eq!(table.rows().map(|row| row.index).collect::<Vec<_>>(), [0, 1, 2, 3]);
+    assert_eq!(table.rows().rev().map(|row| row.index).collect::<Vec<_>>(), [3, 2, 1, 0]);
+    assert_eq!((table.rows().len(), table.rows().skip(3).len(), (&table).into_iter().count()), (4, 1, 4));
+    assert_eq!(table.row(1).unwrap().terms.rev().map(<(i64, u32)>::from).collect::<Vec<_>>(), [(-2, 3), (3, 0)]);
+    assert_eq!(table.row(1).unwrap().terms.len(), 2);
+    assert_eq!(table.rows().filter(Row::is_constraint).count(), 2);
+    assert!(table.row(4).is_none() && Table::default().rows().next().is_none());
+}
+
+#[test]
+fn comment_rows_have_their_text() {
+    let table = read(PLAN, 1).unwrap();
+    let row = table.row(0).unwrap();
+    assert_eq!((row.text.clone(), row.comment(PLAN)), (Some(2..8), Some(&b"budget"[..])));
+    assert_eq!((row.comment(&PLAN[..8]), row.comment(&PLAN[..7])), (Some(&b"budget"[..]), None));
+    assert!(table.rows().skip(1).all(|row| row.text.is_none() && row.comment(PLAN).is_none()));
+}
+
+#[test]
+fn clauses_and_cardinality_rows_have_weights_of_one() {
+    let mut table = one_row(Kind::Clause, 7, &[(5, 0), (-5, 3)]);
+    table.push(Kind::CardinalityEqual, 2, &[(0, 0), (9, 2)]);
+    assert_eq!(told_row(table.row(0).unwrap()), (Some(Kind::Clause), 1, vec![(1, false, 1), (1, true, 2)]));
+    assert_eq!(told_row(table.row(1).unwrap()), (Some(Kind::CardinalityEqual), 2, vec![(1, false, 1), (1, false, 2)]));
+}
+
+#[test]
+fn rows_that_no_call_would_make_have_no_kind_and_no_terms() {
+    let good = one_row(Kind::AtLeast, 1, &[(1, 0), (2, 2)]);
+    let bad = [
+        Table { kinds: vec![9], ..good.clone() },
+        Table { counts: vec![3], ..good.clone() },
+        Table { firsts: vec![1], ..good.clone() },
+        Table { firsts: vec![3], counts: vec![0], ..good.clone() },
+        Table { firsts: vec![usize::MAX], ..good.clone() },
+        Table { counts: vec![usize::MAX], firsts: vec![1], ..good.clone() },
+        Table { weights: vec![1], ..good.clone() },
+        Table { literals: vec![0], ..good.clone() },
+        Table { kinds: vec![0], counts: vec![usize::MAX], firsts: vec![1], ..good.clone() },
+    ];
+    for table in bad {
+        let row = table.row(0).unwrap();
+        assert_eq!((row.kind, row.terms.len(), row.text, table.rows().len()), (None, 0, None, 1), "{:?}", table);
+        assert_eq!(table.evaluate(0, &[0]), refusal(Reason::Row, 0), "{:?}", table);
+    }
+    assert_eq!(Table { bounds: vec![], ..good.clone() }.rows().len(), 0);
+    assert_eq!(marked(3, 3).rows().filter(|row| row.kind.is_none()).count(), 3);
+}
+
+#[test]
+fn literals_have_an_index_and_a_sign() {
+    for code in [0, 1, 2, 3, 2_147_483_646, 2_147_483_647] {
+        let literal = Literal::of(code);
+        assert_eq!(Literal::new(literal.index(), literal.is_negated()), Some(literal));
+        assert_eq!((literal.code(), literal.number(7)), (code, u64::from(code / 2) + 7));
+    }
+    assert_eq!(Literal::new(opb::INDEX_LIMIT + 1, false), None);
+    assert_eq!(Literal::of(u32::MAX).number(u32::MAX), 2_147_483_647 + 4_294_967_295);
+}
+
+#[test]
+fn a_place_has_a_line_and_a_column() {
+    let file = b"a\n\nbcd\r\ne";
+    let lines = (0..=9).map(|place| position(file, place));
+    let expected = [(1, 1), (1, 2), (2, 1), (3, 1), (3, 2), (3, 3), (3, 4), (3, 5), (4, 1), (4, 2)];
+    assert!(lines.eq(expected.map(|(line, column)| Position { line, column })));
+    assert_eq!([10, u64::MAX].map(|place| position(file, place)), [Position { line: 4, column: 2 }; 2]);
+    assert_eq!((position(b"", 0), position(b"a\n", 2)), (Position { line: 1, column: 1 }, Position { line: 2, column: 1 }));
+}
+
+#[test]
+fn comments_are_pushed_as_ranges_of_a_text() {
+    let mut table = one_row(Kind::AtLeast, 1, &[(1, 0)]);
+    table.push_comment(1..3);
+    assert_eq!(table.write(b"abcd", 1, Literals::Plain).unwrap(), b"1 x1 >= 1;\n* bc\n");
+}
+
+/// The number that the header gives to a name.
+fn of_header(name: &str) -> Option<u64> {
+    let header = include_str!("../../../include/opb.h");
+    header.lines().find_map(|line| line.strip_prefix("#define ")?.strip_prefix(name)?.strip_prefix(' ')?.parse().ok())
+}
+
+/// A name of the header for one of an enum: `AtLeast` is `OPB_AT_LEAST`.
+fn name(prefix: &str, variant: &str) -> String {
+    let words = variant.chars().map(|letter| if letter.is_uppercase() { format!("_{}", letter) } else { letter.to_uppercase().to_string() });
+    prefix.to_string() + &words.collect::<String>()
+}
+
+#[test]
+fn names_and_numbers_are_those_of_the_header() {
+    for kind in (0..=8).filter_map(Kind::of) {
+        assert_eq!(of_header(&name("OPB", &format!("{:?}", kind))), Some(u64::from(kind.number())), "{:?}", kind);
+    }
+    for reason in (0..=u8::MAX).filter_map(Reason::of) {
+        assert_eq!(of_header(&name("OPB_REFUSED", &format!("{:?}", reason))), Some(u64::from(reason.number())), "{:?}", reason);
+    }
+    assert_eq!((of_header("OPB_FILE_LIMIT"), of_header("OPB_INDEX_LIMIT")), (Some(opb::FILE_LIMIT as u64), Some(u64::from(opb::INDEX_LIMIT))));
+    let version = ["OPB_VERSION_MAJOR", "OPB_VERSION_MINOR", "OPB_VERSION_PATCH"].map(|part| of_header(part).unwrap().to_string());
+    assert_eq!(version.join("."), opb::VERSION);
 }
