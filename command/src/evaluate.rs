@@ -2,7 +2,7 @@
 use crate::input::{self, Input};
 use crate::options::{Common, Evaluate};
 use crate::output::{deliver, say, Status};
-use crate::progress::Progress;
+use crate::progress::{Bar, Progress};
 use crate::{report, values};
 use opb::{kind, Assignment, Reason, Refusal, Table, Value};
 use std::fmt::Write;
@@ -35,8 +35,10 @@ fn evaluate(plan: &Input, table: &Table, output: &Input, task: &Evaluate, common
     if let Err(refusal) = assignment.extend(&values::block(&output.bytes)) {
         return refused_values(output, &refusal);
     }
-    let progress = Progress::of(&plan.name, common);
-    match progress.during("evaluating", plan.bytes.len(), || answer(table, &assignment)) {
+    let bar = Progress::of(&plan.name, common).percent("evaluating", plan.bytes.len(), table.kinds.len());
+    let answered = answer(table, &assignment, &bar);
+    drop(bar);
+    match answered {
         Ok(answer) => tell(plan, task, common, &answer),
         Err(refusal) => {
             let unknown = unknown(table, refusal.place as usize, &assignment);
@@ -60,9 +62,10 @@ fn refused_values(output: &Input, refusal: &Refusal) -> Status {
     status
 }
 
-fn answer(table: &Table, assignment: &Assignment) -> Result<Answer, Refusal> {
+fn answer(table: &Table, assignment: &Assignment, bar: &Bar) -> Result<Answer, Refusal> {
     let mut answer = Answer::default();
     for row in (0..table.kinds.len()).filter(|row| table.kinds[*row] != kind::COMMENT) {
+        bar.at(row);
         answer.add(table, row, table.evaluate_front(row, assignment)?);
     }
     Ok(answer)

@@ -1,6 +1,8 @@
-//! A plan written as every solver takes it: a true header, the objective, then the rest, no negated variable, numbered from x1. One call of the proved writer over the plan's rows in another order.
+//! A plan written as every solver takes it: a true header, the objective, then the rest, no negated variable, none twice in a row, numbered from x1. One call of the proved writer over the plan's rows in
+//! another order.
 use crate::header::{is_header, Header};
 use crate::names::{comment, of_text};
+use crate::single::mend;
 use opb::{kind, Literals, Reason, Refusal, Table};
 
 /// The first number of a variable, to solvers.
@@ -30,7 +32,8 @@ impl From<Refusal> for NotForSolvers {
 /// Only rows without negative weights can be written, so the table is normalised first.
 pub fn for_solvers(file: &[u8], table: &Table, first: u32) -> Result<ForSolvers, NotForSolvers> {
     let objective = objective(table)?;
-    let normal = table.normal()?;
+    let mut normal = table.normal()?;
+    mend(&mut normal)?;
     let offset = objective.map_or(0, |row| offset(&normal, row));
     let header = header(&normal);
     let mut lines = Lines::new(normal, header);
@@ -57,7 +60,7 @@ fn first_row(table: &Table, objective: Option<usize>) -> Option<usize> {
     objective.or_else(|| table.kinds.iter().position(|kind| is_constraint(*kind)))
 }
 
-/// What is true of the table as it is written.
+/// What is true of the table as it is written: no variable is left out of it.
 fn header(table: &Table) -> Header {
     let highest = table.literals.iter().max().map_or(0, |literal| u64::from(literal / 2) + u64::from(FIRST));
     Header { variables: highest, constraints: table.kinds.iter().filter(|kind| is_constraint(**kind)).count() as u64 }

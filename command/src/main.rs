@@ -16,6 +16,7 @@ mod output;
 mod progress;
 mod report;
 mod rewrite;
+mod single;
 mod solve;
 mod statement;
 mod values;

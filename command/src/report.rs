@@ -105,9 +105,11 @@ pub fn of_file(input: &Input, refusal: &Refusal) -> String {
     if let Some(text) = no_memory(&input.name, refusal) {
         return text;
     }
-    match line_at(&input.bytes, refusal.place as usize) {
-        Some(line) if refusal.reason != Reason::FileLength => of_line(input, &line, refusal),
-        _ => message(&input.name, refusal, "", "", refusal.reason.advice()),
+    // what is too long has no line at fault
+    let line = if refusal.reason == Reason::FileLength { None } else { line_at(&input.bytes, refusal.place as usize) };
+    match line {
+        Some(line) => of_line(input, &line, refusal),
+        None => message(&input.name, refusal, "", "", refusal.reason.advice()),
     }
 }
 

@@ -50,7 +50,11 @@ pub fn blanks(text: &[u8]) -> usize {
 pub fn number(text: &[u8]) -> Option<usize> {
     let sign = usize::from(matches!(text.first(), Some(b'+' | b'-')));
     let digits = run(&text[sign..], |byte| byte.is_ascii_digit());
-    if digits == 0 { None } else { Some(sign + digits) }
+    if digits == 0 {
+        None
+    } else {
+        Some(sign + digits)
+    }
 }
 
 /// The length of a number that 64 bits hold.
@@ -63,7 +67,11 @@ fn held(text: &[u8]) -> Option<usize> {
 fn variable(text: &[u8]) -> Option<usize> {
     let negation = usize::from(matches!(text.first(), Some(b'~' | b'-')));
     let digits = run(text[negation..].strip_prefix(b"x")?, |byte| byte.is_ascii_digit());
-    if digits == 0 { None } else { Some(negation + 1 + digits) }
+    if digits == 0 {
+        None
+    } else {
+        Some(negation + 1 + digits)
+    }
 }
 
 /// The length of an operator.
@@ -150,7 +158,8 @@ mod tests {
 
     #[test]
     fn a_statement_stops_where_the_library_says_why() {
-        let cases = ["3*x1 >= 1", "3 y1 >= 1", "1 x1 + 2 x2 >= 1", "+x1 >= 1", "1 x1 x2 >= 1", "1 x1 == 1", "1 x1 >= 1 2", "min: x1", "min: 1 x1 >= 2", "99999999999999999999 x1 >= 1", "1 x1", "1 x1 >="];
+        let cases =
+            ["3*x1 >= 1", "3 y1 >= 1", "1 x1 + 2 x2 >= 1", "+x1 >= 1", "1 x1 x2 >= 1", "1 x1 == 1", "1 x1 >= 1 2", "min: x1", "min: 1 x1 >= 2", "99999999999999999999 x1 >= 1", "1 x1", "1 x1 >="];
         for case in cases {
             let reason = stop(case.as_bytes()).map(|it| it.wanted.reason());
             assert_eq!(reason, opb::count(case.as_bytes(), 1).err().map(|refusal| refusal.reason), "{}", case);

@@ -1,5 +1,6 @@
 //! `opb rewrite --for-solvers`: the bytes that it prints, and that they mean what the plan means.
 use opb::{kind, Table, Value};
+use std::collections::HashSet;
 use std::io::Write;
 use std::process::{Command, Stdio};
 
@@ -88,6 +89,22 @@ fn an_offset_of_an_earlier_rewrite_is_a_comment_like_any_other() {
     assert_eq!(for_solvers(&plan, "1"), format!("* #variable= 1 #constraint= 0\nmin: -4 x1;\n{}4\n{}9\n", OFFSET, OFFSET));
 }
 
+/// Sat4j has wrong answers where a variable stands in a row twice, toulbar2 where a weight is 0.
+#[test]
+fn a_variable_stands_once_in_a_row_and_with_a_weight() {
+    let plan = "min: 3 x1 2 ~x1 0 x2 -5 x3;\n-17 x1 8 x1 4 x1 = 0;\n1 x5 1 ~x5 2 x6 -3 x6 <= 2;\n4 x5 1 x2 0 x1 0 ~x3 < 9;\n";
+    let written = format!("* #variable= 6 #constraint= 3\nmin: 1 x1 -5 x3;\n{}2\n-5 x1 = 0;\n1 x6 >= -1;\n-4 x5 -1 x2 >= -8;\n", OFFSET);
+    assert_eq!(for_solvers(plan, "1"), written);
+}
+
+/// The row would have no terms, and a solver would have no value for the variable.
+#[test]
+fn a_weight_of_0_stays_where_there_is_no_other() {
+    let plan = "1 x1 -1 x1 >= 1;\n0 x2 0 x1 = 0;\n1 x1 0 x3 >= 1;\n";
+    assert_eq!(for_solvers(plan, "1"), "* #variable= 3 #constraint= 3\n0 x1 >= 1;\n0 x2 = 0;\n1 x1 0 x3 >= 1;\n");
+    assert_eq!(for_solvers("min: 1 x1 -1 x1;\n", "1"), "* #variable= 1 #constraint= 0\nmin: 0 x1;\n");
+}
+
 /// Behind a CR, clasp and Sat4j would read a statement.
 #[test]
 fn a_comment_has_no_end_of_a_line_within() {
@@ -116,6 +133,8 @@ fn a_row_that_cannot_be_written_is_told_by_its_line_in_the_plan() {
     let trouble = refused("* c\n1 x1 >= 1;\n1 x1 <= -9223372036854775807;\nmin: 1 x1;\n");
     assert!(trouble.starts_with("standard input: refused (8) at line 3 (row 2, counted from 0): "), "{}", trouble);
     assert!(trouble.contains("\n  3 | 1 x1 <= -9223372036854775807;\n"), "{}", trouble);
+    let trouble = refused("min: 1 x1;\n1 x1 1 ~x1 >= -9223372036854775808;\n");
+    assert!(trouble.starts_with("standard input: refused (8) at line 2 (row 1, counted from 0): "), "{}", trouble);
 }
 
 /// Numbers of one fixed run.
@@ -169,6 +188,11 @@ fn offset(written: &str) -> i64 {
     lines.nth(1).and_then(|line| line.strip_prefix(OFFSET)).map_or(0, |number| number.parse().unwrap())
 }
 
+fn has_twice(table: &Table, row: usize) -> bool {
+    let literals = table.literals.iter().skip(table.firsts[row]).take(table.counts[row]);
+    table.kinds[row] != kind::COMMENT && literals.map(|literal| literal / 2).collect::<HashSet<u32>>().len() < table.counts[row]
+}
+
 #[test]
 fn what_is_read_again_means_what_the_plan_means() {
     let mut numbers = Numbers(16);
@@ -178,7 +202,7 @@ fn what_is_read_again_means_what_the_plan_means() {
         let plan = numbers.plan(first);
         let written = for_solvers(&plan, &first.to_string());
         let (before, after) = (opb::read(plan.as_bytes(), first).unwrap(), opb::read(written.as_bytes(), 1).unwrap());
-        assert!(!written.contains('~') && !written.contains('<'), "{}", written);
+        assert!(!written.contains('~') && !written.contains('<') && !(0..after.kinds.len()).any(|row| has_twice(&after, row)), "{}", written);
         offsets += (offset(&written) != 0) as usize;
         for assignment in 0..32 {
             let (truths, goal) = meaning(&after, assignment);

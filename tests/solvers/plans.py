@@ -71,8 +71,15 @@ class Plan:
         kept = (bits for bits in itertools.product((False, True), repeat=self.n) if self.keeps(bits))
         return min((value(self.objective or [], bits) for bits in kept), default=None)
 
-    def all_terms(self):
-        return [term for terms in [self.objective or []] + [row[0] for row in self.rows] for term in terms]
+    def sums(self):
+        """The terms of the objective and of each row, where they have any."""
+        return [terms for terms in [self.objective or []] + [row[0] for row in self.rows] if terms]
+
+    def weighs(self):
+        """Whether every sum, and every variable in some sum, has a weight that is not 0 once the terms of each variable are added up."""
+        weights = [{v: sum(-w if negated else w for w, negated, u in terms if u == v) for _, _, v in terms} for terms in self.sums()]
+        heavy = {v for of_sum in weights for v, w in of_sum.items() if w}
+        return all(any(of_sum.values()) for of_sum in weights) and all(v in heavy for of_sum in weights for v in of_sum)
 
     def evaluated(self, bits):
         """The lines of `opb evaluate`."""

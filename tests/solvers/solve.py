@@ -7,6 +7,8 @@ the solver claims; where no assignment keeps every row, it ends with 5.
 The solver's own output, as it is, is then held against the plan by `opb evaluate`: each line is the row's sum and bound as exact arithmetic has them, under the values that the output names. An
 objective with a variable that has no value is refused. (toulbar2 has no value lines.)
 
+Then plans on which solvers stumble where the file is as it stands: through `opb solve` each has its right value, or, where the solver's answer is false, 3.
+
 Then each planted fault (false.py) must be found: a solver that lies, and one that solves another file than it was given. The last line is 'N passed, M failed'.
 """
 import collections
@@ -21,6 +23,19 @@ import tempfile
 from plans import Plan, value
 
 HERE = os.path.dirname(os.path.abspath(__file__))
+# plans with their optimum, None where there is none: the hall's; one comment between header and objective, which Sat4j 2.3.5 passes over with the line behind it; a CR in a comment, behind which clasp and
+# Sat4j would read a row; negated variables, which toulbar2 1.1.1 takes for others, and minisat+ not at all; a variable twice in a row, by which Sat4j comes to a false "none" or "best"; an equality that
+# cannot hold, and that clasp 3.3.5 calls kept
+STUMBLES = [
+    (open(os.path.join(HERE, "../../examples/hall.opb")).read(), -374),
+    ("* #variable= 3 #constraint= 1\n* night\nmin: 1 x1 2 x2 3 x3;\n1 x1 1 x2 >= 2;\n", 3),
+    ("* night\n1 x1 1 x2 >= 3;\n1 x3 >= 1;\n", None),
+    ("min: 1 x1;\n1 x1 >= 0;\n* night\r1 x1 >= 1;\n", 0),
+    ("min: 2 ~x1 3 x2;\n1 ~x1 1 x2 >= 1;\n1 x1 -1 ~x2 <= 0;\n", 2),
+    ("min: 3 x2;\n-17 x1 8 x1 4 x1 = 0;\n1 x1 1 x2 >= 1;\n", 3),
+    ("min: -14 x1 -16 x1 -17 x1 10 x1 1 x1 -4 x1;\n-8 x1 -1 x1 -4 x1 -17 x1 10 x1 -7 x1 >= -27;\n", -40),
+    ("min: 1 x1;\n2 x1 2 x2 2 x3 = 3;\n", None),
+]
 # with what fault of the solver, and how opb must end
 FAULTS = {"value": 3, "claim": 3, "row": 3, "bound": 3, "shift": 3, "silent": 4}
 FAULT_CASES = 100
@@ -47,8 +62,8 @@ class Case:
         return subprocess.run([opb, *words, "--first", str(self.plan.first)], stdout=subprocess.PIPE, stderr=subprocess.PIPE, timeout=SECONDS, universal_newlines=True)
 
     def is_for(self, solver):
-        """toulbar2 1.1.1 has wrong answers where a weight is 0, and does not end on a plan without variables."""
-        return solver != "toulbar2" or (self.plan.all_terms() and all(w != 0 for w, _, _ in self.plan.all_terms()))
+        """toulbar2 1.1.1 does not end on a plan without variables, and has wrong answers where a weight of 0 must stay."""
+        return solver != "toulbar2" or (self.plan.sums() and self.plan.weighs())
 
 
 def wrong_answer(case, solver, said):
@@ -81,12 +96,22 @@ def wrong_solve(case, opb, solver):
 
 
 def printed_values(output):
-    """The values in the last value lines of an output, by variable number, from 1 on; None where one has another form."""
+    """The values in the last value lines of an output, by variable number, from 1 on; None where it claims no solution, or a value has another form."""
     lines = output.split("\n")
+    if "s OPTIMUM FOUND" not in lines and "s SATISFIABLE" not in lines:
+        return None
     last = max((at for at, line in enumerate(lines) if line.startswith("o ")), default=0)
     block = [line for line in lines[last:] if line.startswith("v")] or [line for line in lines if line.startswith("v")]
     tokens = [TOKEN.fullmatch(word) for line in block for word in line[1:].split()]
     return {int(token.group(2)): not token.group(1) for token in tokens} if all(tokens) else None
+
+
+def wrong_value(opb, file, best, solver):
+    """A plan without a solution may be found by a false answer to it; one with a solution must have its optimum."""
+    done = subprocess.run([opb, "solve", file, "--json", "--solver", solver], stdout=subprocess.PIPE, stderr=subprocess.PIPE, timeout=SECONDS, universal_newlines=True)
+    told = json.loads(done.stdout)["value"]
+    good = done.returncode in (3, 5) if best is None else (done.returncode, told) == (0, best)
+    return None if good else "opb solve ends with %d and the value %s, not %s: %s" % (done.returncode, told, best, done.stderr)
 
 
 def wrong_evaluate(case, opb, solver, counts):
@@ -98,7 +123,7 @@ def wrong_evaluate(case, opb, solver, counts):
     with open(output) as file:
         values = printed_values(file.read())
     if values is None:
-        return "its value lines have another form"
+        return "it claims no solution, or its value lines have another form"
     by_variable = [values.get(number - plan.first + 1) for number in plan.numbers]
     done = case.opb(opb, "evaluate", case.file, output)
     open_ones = [v for _, _, v in plan.objective or [] if by_variable[v] is None]
@@ -129,7 +154,7 @@ class Run:
             return
         counts["none" if case.best is None else "solved"] += 1
         self.tell(wrong_solve(case, self.opb, solver), "%s, plan %d, first index %d" % (solver, number, case.plan.first), case.text)
-        if solver in COMMANDS and case.best is not None and case.plan.all_terms():
+        if solver in COMMANDS and case.best is not None and case.plan.sums():
             self.tell(wrong_evaluate(case, self.opb, solver, counts), "%s, plan %d, first index %d" % (solver, number, case.plan.first), case.text)
 
     def plans(self, folder):
@@ -139,6 +164,14 @@ class Run:
             for solver in self.solvers:
                 self.one(case, number, solver)
 
+    def stumbles(self, folder):
+        for text, best in STUMBLES:
+            file = os.path.join(folder, "stumble.opb")
+            with open(file, "w", newline="") as written:
+                written.write(text)
+            for solver in self.solvers:
+                self.tell(wrong_value(self.opb, file, best, solver), solver, text)
+
     def fault(self, folder, fault, wanted):
         """The plan in which the fault is found; a plan that is called good must be good all the same."""
         rng, solver = random.Random(self.seed), "%s %s/false.py %s" % (sys.executable, HERE, fault)
@@ -146,7 +179,7 @@ class Run:
             case = Case(rng, folder, zeros=True)
             done = case.opb(self.opb, "solve", case.file, "--json", "--solver", solver)
             if done.returncode == wanted:
-                print("the fault `%s` is found in plan %d: %s" % (fault, number, json.loads(done.stdout)["messages"][0].split("\n")[0]))
+                print("the fault `%s` is found in plan %d, by exit status %d" % (fault, number, wanted))
                 return None
             said = json.loads(done.stdout)
             true = {it["number"] for it in said["true"]}
@@ -157,6 +190,7 @@ class Run:
     def all(self):
         with tempfile.TemporaryDirectory() as folder:
             self.plans(folder)
+            self.stumbles(folder)
             for fault, wanted in FAULTS.items() if "clasp" in self.solvers else ():
                 self.tell(self.fault(folder, fault, wanted), "the fault `%s`" % fault)
         for solver, c in self.counts.items():

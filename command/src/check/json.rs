@@ -50,8 +50,13 @@ pub fn of(input: &Input, checked: &Checked, first: u32) -> String {
     match checked {
         Checked::Accepted { sums, warnings, remark } => {
             let counts = [
-                ("rows", sums.rows), ("comments", sums.comments), ("constraints", sums.constraints()), ("objectives", sums.objectives),
-                ("terms", sums.terms), ("variables", sums.variables.len()), ("names", sums.names.indexes.len()),
+                ("rows", sums.rows),
+                ("comments", sums.comments),
+                ("constraints", sums.constraints()),
+                ("objectives", sums.objectives),
+                ("terms", sums.terms),
+                ("variables", sums.variables.len()),
+                ("names", sums.names.indexes.len()),
             ];
             counts.into_iter().for_each(|(name, count)| object[name] = json!(count));
             object["highest"] = json!(sums.highest(first));

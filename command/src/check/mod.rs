@@ -10,7 +10,6 @@ use crate::output::{print, say, Status};
 use crate::progress::Progress;
 use crate::{advice, report};
 use opb::{Refusal, Size, FILE_LIMIT};
-use std::fmt::Write;
 use std::thread;
 use sums::Sums;
 use walk::{Finding, Walk};
@@ -19,7 +18,7 @@ use walk::{Finding, Walk};
 const MOST: usize = 20;
 
 enum Checked<'a> {
-    Accepted { sums: Sums<'a>, warnings: Vec<String>, remark: Option<String> },
+    Accepted { sums: Box<Sums<'a>>, warnings: Vec<String>, remark: Option<String> },
     Refused { findings: Vec<Finding<'a>>, refused: usize },
     TooLong(Refusal),
 }
@@ -34,6 +33,10 @@ impl Checked<'_> {
 }
 
 pub fn run(task: &Check, common: &Common) -> Status {
+    if task.files.iter().filter(|file| *file == "-").count() > 1 {
+        say("opb: check takes standard input once");
+        return Status::Trouble;
+    }
     let statuses = task.files.iter().map(|file| match input::plan(file, common) {
         Ok(input) => on_file(&input, task, common),
         Err(status) => trouble(&input::name_of(file), status, task),
@@ -57,8 +60,7 @@ fn on_file(input: &Input, task: &Check, common: &Common) -> Status {
             return trouble(&input.name, Status::Trouble, task);
         }
     };
-    let text = if task.json { json::of(input, &checked, common.first) } else { text(input, &checked, common) };
-    let printed = print(text.as_bytes());
+    let printed = if task.json { print(json::of(input, &checked, common.first).as_bytes()) } else { tell(input, &checked, common) };
     if let (Checked::Accepted { warnings, remark, .. }, false) = (&checked, common.quiet) {
         warnings.iter().for_each(|warning| say(&format!("{}: warning: {}", input.name, warning)));
         remark.iter().for_each(|remark| say(&format!("{}: remark: {}", input.name, remark)));
@@ -75,9 +77,11 @@ fn checked<'a>(input: &'a Input, task: &Check, common: &Common) -> Result<Checke
     let bar = Progress::of(&input.name, common).percent("checking", file.len(), file.len());
     let most = if task.all { usize::MAX } else { MOST };
     let (whole, walk) = thread::scope(|scope| {
-        let whole = scope.spawn(|| opb::count(file, common.first));
+        let count = || opb::count(file, common.first);
+        let whole = thread::Builder::new().spawn_scoped(scope, count);
         let walk = Walk::through(file, common.first, most, &bar);
-        (whole.join(), walk)
+        // where there is no second thread, one after the other
+        (whole.map_or_else(|_| Ok(count()), |whole| whole.join()), walk)
     });
     drop(bar);
     let walk = walk.map_err(|memory| report::of_file(input, &memory))?;
@@ -85,7 +89,7 @@ fn checked<'a>(input: &'a Input, task: &Check, common: &Common) -> Result<Checke
     match (whole.map_err(|_| at_odds(&input.name))?, findings.first()) {
         (Ok(size), None) if size == (Size { rows: sums.rows, terms: sums.terms }) => {
             let (warnings, remark) = (warnings::of(file, &sums, common.first), warnings::remark(&sums, common.first));
-            Ok(Checked::Accepted { sums, warnings, remark })
+            Ok(Checked::Accepted { sums: Box::new(sums), warnings, remark })
         }
         (Err(refusal), Some(first)) if refusal == first.refusal => Ok(Checked::Refused { findings, refused }),
         _ => Err(at_odds(&input.name)),
@@ -93,15 +97,18 @@ fn checked<'a>(input: &'a Input, task: &Check, common: &Common) -> Result<Checke
 }
 
 fn at_odds(name: &str) -> String {
-    format!("opb: internal error: {}: the file as a whole and its lines one by one are not of one mind; nothing is said of this file, and this is a fault of the command, to be told to its makers", name)
+    format!(
+        "opb: internal error: {}: the file as a whole and its lines one by one are not of one mind; nothing is said of this file, and this is a fault of the command, to be told to its makers",
+        name
+    )
 }
 
-fn text(input: &Input, checked: &Checked, common: &Common) -> String {
+fn tell(input: &Input, checked: &Checked, common: &Common) -> Status {
     match checked {
-        Checked::Accepted { .. } if common.quiet => String::new(),
-        Checked::Accepted { sums, .. } => accepted(&input.name, sums, common.first),
-        Checked::Refused { findings, refused } => refusals(input, findings, *refused),
-        Checked::TooLong(refusal) => report::of_file(input, refusal),
+        Checked::Accepted { .. } if common.quiet => Status::Accepted,
+        Checked::Accepted { sums, .. } => print(accepted(&input.name, sums, common.first).as_bytes()),
+        Checked::Refused { findings, refused } => tell_findings(input, findings).max(print(sum_of(input, findings, *refused).as_bytes())),
+        Checked::TooLong(refusal) => print(report::of_file(input, refusal).as_bytes()),
     }
 }
 
@@ -113,15 +120,20 @@ fn accepted(name: &str, sums: &Sums, first: u32) -> String {
     format!("{name}: accepted: rows {rows} (comments {comments}, constraints {constraints}, objectives {objectives}), terms {terms}, variables {variables}{highest}{names}\n")
 }
 
-fn refusals(input: &Input, findings: &[Finding], refused: usize) -> String {
-    let mut text: String = findings.iter().map(|finding| report::of_line(input, &finding.line, &finding.refusal)).collect();
+/// Some at a time: all of them are many times as long as the file.
+fn tell_findings(input: &Input, findings: &[Finding]) -> Status {
+    let message = |finding: &Finding| report::of_line(input, &finding.line, &finding.refusal);
+    let printed = findings.chunks(1000).map(|some| print(some.iter().map(message).collect::<String>().as_bytes()));
+    printed.max().unwrap_or(Status::Accepted)
+}
+
+/// How many lines are refused; of a file that is no text that says nothing.
+fn sum_of(input: &Input, findings: &[Finding], refused: usize) -> String {
     if advice::no_text(&input.bytes).is_some() {
-        return text;
+        return String::new();
     }
     let shown: usize = findings.iter().map(|finding| finding.lines).sum();
     let lines = if refused == 1 { "1 line is refused".to_string() } else { format!("{} lines are refused", refused) };
     let more = if shown < refused { format!(", {} of them not shown (--all shows all)", refused - shown) } else { String::new() };
-    // a string takes whatever is written to it
-    let _ = writeln!(text, "{}: {}{}", input.name, lines, more);
-    text
+    format!("{}: {}{}\n", input.name, lines, more)
 }

@@ -6,7 +6,9 @@ use crate::header::Header;
 pub fn of(file: &[u8], sums: &Sums, first: u32) -> Vec<String> {
     let mut all = Vec::new();
     all.extend(rows(sums));
-    all.extend(sums.broken.map(|place| format!("the comment at line {} has a CR in it: where lines end in CR alone (old Macs), all that follows is comment; `tr '\\r' '\\n'` mends that", line(file, place))));
+    all.extend(
+        sums.broken.map(|place| format!("the comment at line {} has a CR in it: where lines end in CR alone (old Macs), all that follows is comment; `tr '\\r' '\\n'` mends that", line(file, place))),
+    );
     all.extend(header_place(file, sums));
     all.extend(sums.header.iter().flat_map(|header| header_numbers(header, sums, first)));
     all.extend(names(file, sums));

@@ -15,12 +15,16 @@ pub struct Variables {
 }
 
 impl Variables {
+    /// Of the answer's words, those bits that the plan has.
     pub fn of(plan: &Plan, verdict: &Verdict) -> Variables {
-        let mut stands = vec![false; plan.variables as usize];
-        plan.table.literals.iter().for_each(|literal| stands[*literal as usize / 2] = true);
-        let is_true = |index: &usize| verdict.answer.as_ref().map_or(false, |answer| stands[*index] && answer.value(*index) == Some(true));
-        let trues = (0..stands.len()).filter(is_true).map(|index| index as u32).collect();
-        Variables { count: stands.iter().filter(|it| **it).count(), trues }
+        let mut stands = vec![0u64; plan.variables as usize / 64 + 1];
+        for literal in &plan.table.literals {
+            let index = *literal as usize / 2;
+            stands[index / 64] |= 1 << (index % 64);
+        }
+        let is_true = |index: &u32| stands[*index as usize / 64] >> (index % 64) & 1 == 1 && verdict.answer.as_ref().map_or(false, |answer| answer.value(*index as usize) == Some(true));
+        let trues = (0..plan.variables as u32).filter(is_true).collect();
+        Variables { count: stands.iter().map(|word| word.count_ones() as usize).sum(), trues }
     }
 }
 
