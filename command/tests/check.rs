@@ -95,7 +95,7 @@ fn a_file_of_several_chunks_adds_up() {
     assert_eq!((status, refusals(&out)), (1, places.map(str::to_string).to_vec()));
 }
 
-/// A second here; hours, were each refused line to cost a walk through what follows.
+/// Were each refused line to cost a walk through all that follows, this would take minutes.
 #[test]
 fn a_file_of_refused_lines_alone_is_done_in_time() {
     let plan = "3x1 >= 1;\n".repeat(200_000);
