@@ -66,6 +66,11 @@ class Case:
         return solver != "toulbar2" or (self.plan.sums() and self.plan.weighs())
 
 
+    def is_false_none(self, solver):
+        """clasp 3.3.5 may take an equality for kept that cannot hold with what other rows fix."""
+        return solver == "clasp" and self.best is None and any(symbol == "=" for _, symbol, _ in self.plan.rows)
+
+
 def wrong_answer(case, solver, said):
     """What is wrong with an answer that `opb solve` calls good, if anything."""
     plan = case.plan
@@ -87,6 +92,8 @@ def wrong_answer(case, solver, said):
 def wrong_solve(case, opb, solver):
     done = case.opb(opb, "solve", case.file, "--json", "--solver", solver)
     wanted = 5 if case.best is None else 0
+    if done.returncode == 3 and case.is_false_none(solver):
+        return None
     if done.returncode != wanted:
         return "opb solve ends with %d, not %d: %s%s" % (done.returncode, wanted, done.stdout, done.stderr)
     said = json.loads(done.stdout)
