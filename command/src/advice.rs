@@ -24,6 +24,9 @@ const TILDE: &str = "write a negated variable as `~x1`";
 const OUTPUT: &str = "this looks like a solver's output: `opb evaluate PLAN OUTPUT` reads that";
 const BEFORE_COMMENT: &str = "end the statement with `;`, and begin the comment with `*`";
 
+const NO_BREAK: &str = "a no-break space stands there: write a plain one";
+const MINUS: &str = "a minus sign of another font stands there: write `-`";
+
 /// Files that are no text; nothing more need be said of them.
 const NO_TEXT: [Rule; 7] = [
     (b"\x1f\x8b", "the file is packed by gzip: unpack it, for instance by `zcat`, and read it as a file or from standard input (`-`)"),
@@ -36,7 +39,7 @@ const NO_TEXT: [Rule; 7] = [
 ];
 
 /// What no statement begins with; in small letters.
-const BEGINNINGS: [Rule; 23] = [
+const BEGINNINGS: [Rule; 25] = [
     (b"\xef\xbb\xbf", "the file begins with a byte order mark: save it as UTF-8 without one, or leave its first three bytes out by `tail -c +4`"),
     (b"max", "write `min:` with every weight's sign turned; the least value is then the greatest with its sign turned"),
     (b"minimi", "write `min:`, which is all that an objective begins with"),
@@ -60,10 +63,12 @@ const BEGINNINGS: [Rule; 23] = [
     (b";", "remove the `;` that ends nothing"),
     (b"\r", CR_ALONE),
     (b"\0", UTF_16),
+    (b"\xc2\xa0", NO_BREAK),
+    (b"\xe2\x88\x92", MINUS),
 ];
 
 /// Right behind a weight, where a blank should stand.
-const NO_BLANK: [Rule; 7] = [(b"*", TIMES), (b".", DECIMAL), (b",", DECIMAL), (b"e", EXPONENT), (b"E", EXPONENT), (b"\r", CR_ALONE), (b"\0", UTF_16)];
+const NO_BLANK: [Rule; 8] = [(b"*", TIMES), (b".", DECIMAL), (b",", DECIMAL), (b"e", EXPONENT), (b"E", EXPONENT), (b"\r", CR_ALONE), (b"\0", UTF_16), (b"\xc2\xa0", NO_BREAK)];
 
 /// Behind a weight and a blank, where a variable should stand.
 const NO_VARIABLE: [Rule; 14] = [
@@ -84,7 +89,7 @@ const NO_VARIABLE: [Rule; 14] = [
 ];
 
 /// Behind a sum, where an operator should stand.
-const NO_OPERATOR: [Rule; 12] = [
+const NO_OPERATOR: [Rule; 15] = [
     (b"!", NOT_EQUAL),
     (b"\xe2\x89\xa0", NOT_EQUAL),
     (b"\xe2\x89\xa5", "write `>=`"),
@@ -97,6 +102,9 @@ const NO_OPERATOR: [Rule; 12] = [
     (b"\r", CR_ALONE),
     (b";", ONE_LINE),
     (b"\0", UTF_16),
+    (b",", "write the terms one behind the other, with blanks between and no commas"),
+    (b"\xc2\xa0", NO_BREAK),
+    (b"\xe2\x88\x92", MINUS),
 ];
 
 /// Behind an operator, where a number should stand, with the operator's last byte before it.
@@ -246,11 +254,12 @@ fn no_variable(rest: &[u8]) -> Option<String> {
 
 fn no_bound(text: &[u8], at: usize) -> Option<String> {
     let (before, rest) = (text[..at].iter().rev().find(|byte| !is_blank(**byte))?, &text[at..]);
-    let both: Vec<u8> = [*before].into_iter().chain(rest.iter().copied().take(1)).collect();
     if matches!(rest.first(), None | Some(b';')) {
         return Some("write the bound behind the operator, such as `>= 1;`".to_string());
     }
-    by_beginning(&NO_BOUND, &both).or_else(|| sign(rest, "bound")).or_else(|| too_large(rest))
+    let both: Vec<u8> = std::iter::once(*before).chain(rest.iter().copied().take(1)).collect();
+    let sign = || by_beginning(&[(b"\xc2\xa0", NO_BREAK), (b"\xe2\x88\x92", MINUS)], rest).or_else(|| sign(rest, "bound"));
+    by_beginning(&NO_BOUND, &both).or_else(sign).or_else(|| too_large(rest))
 }
 
 /// More behind the bound, with a variable in it.

@@ -30,6 +30,8 @@ What is rewritten is normalised first, since only rows without negative weights 
 
 behind the objective says what to add. An offset line that the file has already is a comment like any other and stays; its number is to be added too. Rows that would need a number beyond 64 bits are refused, with their line and their row (counted from 0). Nothing is then written; standard error has the refusal, as check says it.
 
+With --for-solvers the header (`* #variable= N #constraint= M`) stands first, N the greatest variable number and M the constraints, and an old one is left out; then the objective, left out if it has no terms; then the rest. Variables are numbered from x1, whatever --first is, and names (comments `* output x1 NAME`) with them. A plan with more than one objective is refused.
+
 The file is held in memory, with 25 bytes for each row and 12 for each term, twice, and what is written.
 
 Exit status: 0 written, 1 refused, 2 wrong usage or trouble with a file or memory.";
@@ -44,3 +46,8 @@ A value that is not understood, or is at odds with another, is refused with its 
 PLAN is held in memory, with 25 bytes for each row and 12 for each term; so are ANSWER, once more its value lines, and what is printed.
 
 Exit status: 0 every constraint holds, 1 refused, 2 wrong usage or trouble with a file or memory, 3 a constraint fails.";
+
+pub const SOLVE: &str = "\
+Checks the plan, writes it as `opb rewrite --for-solvers` does, runs the solver on that, reads its `s`, `o` and `v` lines, and judges every row of the plan as it was read, and the objective's value against the one that the solver claims. It prints status and value, the true variables, by name where the plan has names, and what was checked. That there is no plan, or no better one, is the solver's word alone, and is said to be.
+
+Exit status: 0 a plan is found, and every row holds; 1 refused; 2 wrong usage or trouble with a file or memory; 3 the solver's answer or claim is false; 4 the solver is missing, died, or its lines cannot be read; 5 the solver says that there is no plan, or has no answer in time.";

@@ -45,8 +45,4 @@ impl<'a> Names<'a> {
     pub fn shown(&self, index: u32, first: u32) -> String {
         self.name(index).map_or_else(|| format!("x{}", u64::from(index) + u64::from(first)), str::to_string)
     }
-
-    pub fn len(&self) -> usize {
-        self.names.len()
-    }
 }

@@ -57,6 +57,7 @@ pub enum Task {
     #[command(after_long_help = help::EVALUATE)]
     Evaluate(Evaluate),
     /// Runs a solver on the plan and judges its answer by every row
+    #[command(after_long_help = help::SOLVE)]
     Solve(Solve),
     /// Prints the completions for a shell
     #[command(hide = true)]

@@ -1,7 +1,10 @@
 //! What the command prints, and its exit status.
 use crate::options::Output;
-use std::fs::{self, File, OpenOptions, Permissions};
+use nix::unistd::{fchown, Gid, Uid};
+use std::fs::{self, File, Metadata, OpenOptions};
 use std::io::{self, ErrorKind, Write};
+use std::os::unix::fs::MetadataExt;
+use std::os::unix::io::AsRawFd;
 use std::path::{Path, PathBuf};
 
 /// The exit status; of several files, the greatest counts.
@@ -58,7 +61,7 @@ fn write(file: &Path, text: &[u8]) -> io::Result<()> {
         Some(there) => {
             // a file that may not be written is not replaced either
             OpenOptions::new().append(true).open(file)?;
-            write_whole(&fs::canonicalize(file)?, text, Some(there.permissions()))
+            write_whole(&fs::canonicalize(file)?, text, Some(&there))
         }
         None => write_whole(&link_end(file)?, text, None),
     }
@@ -83,13 +86,22 @@ fn link_end(file: &Path) -> io::Result<PathBuf> {
     Ok(end)
 }
 
-/// The file is written in a folder beside the one that it takes the place of, and takes its place once it is whole. Without permissions to keep it has those of any new file.
-fn write_whole(file: &Path, text: &[u8], permissions: Option<Permissions>) -> io::Result<()> {
+/// Owner and group of the file that was there, as far as this user may give them, and its permissions.
+fn keep(whole: &File, there: &Metadata) -> io::Result<()> {
+    let new = whole.metadata()?;
+    if (new.uid(), new.gid()) != (there.uid(), there.gid()) {
+        let _ = fchown(whole.as_raw_fd(), Some(Uid::from_raw(there.uid())), Some(Gid::from_raw(there.gid())));
+    }
+    whole.set_permissions(there.permissions())
+}
+
+/// The file is written in a folder beside the one that it takes the place of, and takes its place once it is whole. Where none was there, it has the permissions of any new file.
+fn write_whole(file: &Path, text: &[u8], there: Option<&Metadata>) -> io::Result<()> {
     let beside = tempfile::Builder::new().prefix(".opb-").tempdir_in(folder_of(file))?;
     let path = beside.path().join("whole");
     let mut whole = File::create(&path)?;
     // before there is anything to read in it
-    permissions.map_or(Ok(()), |permissions| whole.set_permissions(permissions))?;
+    there.map_or(Ok(()), |there| keep(&whole, there))?;
     whole.write_all(text)?;
     whole.sync_all()?;
     fs::rename(&path, file)

@@ -1,9 +1,10 @@
 //! Where lines go: standard output, and files that are written whole or not at all.
 mod common;
 use common::{command, file, folder, opb, printed, start, PLAN, ROOMS};
+use nix::unistd::{chown, Gid, Uid};
 use std::fs;
 use std::io::Write;
-use std::os::unix::fs::{symlink, PermissionsExt};
+use std::os::unix::fs::{symlink, MetadataExt, PermissionsExt};
 use std::path::PathBuf;
 use std::process::Command;
 
@@ -66,6 +67,21 @@ fn a_file_may_be_written_onto_itself_and_keeps_its_permissions() {
     assert_eq!(opb(&["normal", &plan, "-o", &plan], ""), printed(0, ""));
     assert_eq!((fs::read_to_string(&plan).unwrap().as_str(), mode(&plan)), (NORMAL, 0o640));
     assert_eq!(names_in(&folder), ["plan.opb"]);
+}
+
+/// Only root can give a file away, and so lose it.
+#[test]
+fn a_file_of_another_user_stays_that_users() {
+    let folder = empty("owner");
+    let plan = text(folder.join("plan.opb"));
+    fs::write(&plan, PLAN).unwrap();
+    if chown(plan.as_str(), Some(Uid::from_raw(12)), Some(Gid::from_raw(34))).is_err() {
+        eprintln!("skipped: this user cannot give a file away");
+        return;
+    }
+    assert_eq!(opb(&["normal", &plan, "-o", &plan], ""), printed(0, ""));
+    let there = fs::metadata(&plan).unwrap();
+    assert_eq!((there.uid(), there.gid(), fs::read_to_string(&plan).unwrap().as_str()), (12, 34, NORMAL));
 }
 
 #[test]

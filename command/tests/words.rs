@@ -20,6 +20,7 @@ fn help_of_a_command_says_more_than_its_short_help() {
         ("list", "A refusal is one line"),
         ("normal", "opposite literal"),
         ("rewrite", "* objective offset for previous objective: N"),
+        ("solve", "every row of the plan as it was read"),
         ("evaluate", "behind the last line of `o` and a number"),
     ];
     for (command, text) in words {
@@ -55,7 +56,7 @@ fn completions_name_the_commands() {
 
 #[test]
 fn wrong_usage_is_2() {
-    let words: [&[&str]; 17] = [
+    let words: [&[&str]; 18] = [
         &[],
         &["lists", "-"],
         &["check"],
@@ -72,6 +73,7 @@ fn wrong_usage_is_2() {
         &["evaluate", "a", "-", "--negated"],
         &["rewrite", "-", "--negated", "--for-solvers"],
         &["check", "-", "-o", "a"],
+        &["check", "-", "-"],
         &["completions", "cobol"],
     ];
     for words in words {

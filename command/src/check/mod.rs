@@ -33,6 +33,10 @@ impl Checked<'_> {
 }
 
 pub fn run(task: &Check, common: &Common) -> Status {
+    if task.files.iter().filter(|file| *file == "-").count() > 1 {
+        say("opb: check takes standard input once");
+        return Status::Trouble;
+    }
     let statuses = task.files.iter().map(|file| match input::plan(file, common) {
         Ok(input) => on_file(&input, task, common),
         Err(status) => trouble(&input::name_of(file), status, task),
@@ -73,9 +77,11 @@ fn checked<'a>(input: &'a Input, task: &Check, common: &Common) -> Result<Checke
     let bar = Progress::of(&input.name, common).percent("checking", file.len(), file.len());
     let most = if task.all { usize::MAX } else { MOST };
     let (whole, walk) = thread::scope(|scope| {
-        let whole = scope.spawn(|| opb::count(file, common.first));
+        let count = || opb::count(file, common.first);
+        let whole = thread::Builder::new().spawn_scoped(scope, count);
         let walk = Walk::through(file, common.first, most, &bar);
-        (whole.join(), walk)
+        // where there is no second thread, one after the other
+        (whole.map_or_else(|_| Ok(count()), |whole| whole.join()), walk)
     });
     drop(bar);
     let walk = walk.map_err(|memory| report::of_file(input, &memory))?;

@@ -108,7 +108,9 @@ impl<'a> Walk<'a> {
 
 #[cfg(test)]
 mod tests {
-    use super::{chunk_end, CHUNK};
+    use super::{chunk_end, Walk, CHUNK};
+    use crate::options::Common;
+    use crate::progress::Progress;
 
     #[test]
     fn a_chunk_is_whole_lines() {
@@ -120,5 +122,36 @@ mod tests {
         assert_eq!(chunk_end(long.as_bytes(), 0), 2 * CHUNK + 3);
         assert_eq!(chunk_end(long.as_bytes(), 2 * CHUNK + 3), long.len());
         assert_eq!(chunk_end("a".repeat(2 * CHUNK).as_bytes(), 0), 2 * CHUNK);
+    }
+
+    const PIECES: [&[u8]; 16] =
+        [b"\n", b"\r\n", b"1 x1 >= 1", b";", b"min:", b" 2 ~x2", b"* a", b"\t", b"\r", b" = -3", b"x", b"0 x0 <= 0;\n", b"9223372036854775807 x1", b"+", b"1 x2 > 2;\n", b"* b\n"];
+
+    /// A file of pieces, the same for the same seed.
+    fn file(mut seed: u64) -> Vec<u8> {
+        let pieces = (0..1 + seed % 24).map(|_| {
+            seed = seed.wrapping_mul(6364136223846793005).wrapping_add(1442695040888963407);
+            PIECES[(seed >> 60) as usize]
+        });
+        pieces.collect::<Vec<_>>().concat()
+    }
+
+    /// What the walk finds is what the library says of each line alone, and the first is what it says of the whole.
+    #[test]
+    fn a_walk_is_of_one_mind_with_the_lines_and_with_the_whole() {
+        let bar = Progress::of("", &Common { first: 1, quiet: true }).percent("", 0, 0);
+        let mut accepted = 0;
+        for file in (0..20_000).map(file) {
+            let (whole, walk) = (opb::count(&file, 1), Walk::through(&file, 1, usize::MAX, &bar).unwrap());
+            let alone: Vec<u64> = crate::lines::lines(&file).filter_map(|line| Some(opb::count(line.bytes, 1).err()?.place + line.start as u64)).collect();
+            assert_eq!(walk.refused, alone.len(), "{}", String::from_utf8_lossy(&file));
+            assert!(walk.findings.iter().all(|finding| alone.contains(&finding.refusal.place) && finding.line.number == 1 + file[..finding.line.start].iter().filter(|byte| **byte == b'\n').count()));
+            assert_eq!(whole.err(), walk.findings.first().map(|finding| finding.refusal));
+            if let Ok(size) = whole {
+                assert_eq!((size.rows, size.terms), (walk.sums.rows, walk.sums.terms));
+                accepted += usize::from(size.terms > 0);
+            }
+        }
+        assert!(accepted > 200, "{}", accepted);
     }
 }
