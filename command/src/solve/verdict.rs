@@ -94,7 +94,7 @@ impl Verdict {
         let completed = open::completed(plan.table, objective, assignment, self.claimed).map_err(|refusal| refused_row(plan, &refusal, &Assignment::new()))?;
         self.completed = completed.count;
         if completed.count > 0 {
-            self.remarks.push(format!("{}: variables that stand in the objective alone, without a value in the answer: {}. They {}", solver, completed.count, completed.how));
+            self.remarks.push(format!("{}: variables on which no constraint depends, without a value in the answer: {}. They {}", solver, completed.count, completed.how));
         }
         self.rows = rows(plan, &completed.assignment)?;
         self.judged = true;
