@@ -10,7 +10,6 @@ mod verdict;
 mod words;
 
 use crate::for_solvers::for_solvers;
-use crate::header::Header;
 use crate::input::{self, Input};
 use crate::names::Names;
 use crate::options::{Common, Solve};
@@ -67,7 +66,7 @@ fn solve(task: &Solve, common: &Common, limit: Option<Duration>, input: &Input, 
     let solver = chosen(task)?;
     let held = Held::new().map_err(|error| told(&error))?;
     let file = file_in(held.folder(), &written.text).map_err(|error| told(&error))?;
-    let (offset, Header { variables, .. }) = (written.offset, written.header);
+    let (offset, variables) = (written.offset, greatest(table).max(written.header.variables));
     drop(written.text);
     let plan = Plan { input, table, names: Names::of(&input.bytes, table, common.first), first: common.first, offset, variables };
     let mut said = Said::new(solver.form, variables);
@@ -77,6 +76,11 @@ fn solve(task: &Solve, common: &Common, limit: Option<Duration>, input: &Input, 
     })?;
     let verdict = progress.during("judging", input.bytes.len(), || Verdict::of(&plan, &solver.name, &said, &run));
     Ok(tell(task, common, &plan, &solver, &verdict, &run))
+}
+
+/// The greatest number of a variable of the plan, counted from 1 as solvers do. The solver's file may leave out a variable without weights.
+fn greatest(table: &Table) -> u64 {
+    table.literals.iter().max().map_or(0, |literal| u64::from(literal / 2) + 1)
 }
 
 fn chosen(task: &Solve) -> Result<Solver, Status> {

@@ -19,8 +19,9 @@ pub struct Plan<'a> {
     pub table: &'a Table,
     pub names: Names<'a>,
     pub first: u32,
-    /// Of the solver's file: what is added to a value that is told, and the greatest number of a variable.
+    /// What is added to a value that the solver tells.
     pub offset: i64,
+    /// The greatest number of a variable, counted from 1 as solvers do.
     pub variables: u64,
 }
 
