@@ -32,6 +32,9 @@ pub fn lines_of_rows<'a>(file: &'a [u8], first: u32, rows: &[usize]) -> Vec<Line
     for line in lines(file) {
         before += opb::count(line.bytes, first).map_or(0, |size| size.rows);
         found.resize(rows.partition_point(|row| *row < before), line);
+        if found.len() == rows.len() {
+            break;
+        }
     }
     found
 }

@@ -277,17 +277,20 @@ fn a_process_that_holds_the_pipe_is_not_waited_for() {
 }
 
 #[test]
-fn variables_of_the_objective_alone_may_be_open() {
-    let plan = "min: 1 x1 -4 x2 3 x3;\n1 x1 >= 1;\n";
+fn variables_on_which_no_constraint_depends_may_be_open() {
+    // the weights of x2 in the constraint add up to 0
+    let plan = "min: 1 x1 -4 x2 3 x3;\n1 x1 2 x2 -2 x2 0 x3 >= 1;\n";
     let open = |name: &str, lines: &str| solve(name, plan, &format!("cat <<'END'\ns OPTIMUM FOUND\n{}END\n", lines), &[]);
     let done = open("open-weight", "o -3\nv x1\n");
     assert!(done.status == 0 && done.out.contains("value   -3 ") && done.out.contains("\nx1\nx2\nchecked"), "{}{}", done.out, done.err);
-    assert!(done.err.contains("variables that stand in the objective alone, without a value in the answer: 2. They take the value that their weight asks for"), "{}", done.err);
+    assert!(done.err.contains("variables on which no constraint depends, without a value in the answer: 2. They take the value that their weight in the objective asks for"), "{}", done.err);
     let done = open("open-false", "o 1\nv x1\n");
     assert!(done.status == 0 && done.out.contains("value   1 ") && done.err.contains("are false, as the solver counts them"), "{}{}", done.out, done.err);
     let done = open("open-claim", "o 0\nv x1\n");
     assert!(done.status == 3 && done.err.contains("the value 0, and the objective's value is -3"), "{}", done.err);
     assert_eq!(open("open-constraint", "o -3\nv x2\n").status, 4);
+    let done = solve("open-nothing", "1 x1 0 x2 >= 1;\n", "echo 's SATISFIABLE'; echo 'v x1'\n", &["-q"]);
+    assert_eq!((done.status, done.out.as_str(), done.err.as_str()), (0, "x1\n", ""));
 }
 
 #[test]

@@ -1,6 +1,7 @@
 //! What must not outlive the command: the solver's process and the folder of its file. Ctrl-C and the word to end (SIGINT, SIGTERM) end the solver and remove the folder before they end the command.
 use nix::sys::signal::{kill, raise, SigSet, Signal};
 use nix::unistd::Pid;
+use std::fs;
 use std::io;
 use std::path::{Path, PathBuf};
 use std::process::{self, Child, Command, ExitStatus};
@@ -24,10 +25,16 @@ fn locked(both: &Mutex<Both>) -> MutexGuard<'_, Both> {
     both.lock().unwrap_or_else(PoisonError::into_inner)
 }
 
+/// Whether the command was started to ignore it, as a script's background jobs do with SIGINT.
+fn is_ignored(signal: Signal) -> bool {
+    let status = fs::read_to_string("/proc/self/status").unwrap_or_default();
+    let mask = status.lines().find_map(|line| u64::from_str_radix(line.strip_prefix("SigIgn:")?.trim(), 16).ok());
+    mask.map_or(false, |mask| mask >> (signal as u32 - 1) & 1 == 1)
+}
+
 fn signals() -> SigSet {
     let mut signals = SigSet::empty();
-    signals.add(Signal::SIGINT);
-    signals.add(Signal::SIGTERM);
+    [Signal::SIGINT, Signal::SIGTERM].into_iter().filter(|signal| !is_ignored(*signal)).for_each(|signal| signals.add(signal));
     signals
 }
 
@@ -39,7 +46,7 @@ fn wait_for(signals: SigSet, both: &Mutex<Both>) {
             let _ = kill(solver, Signal::SIGKILL);
         }
         if let Some(folder) = &held.folder {
-            let _ = std::fs::remove_dir_all(folder);
+            let _ = fs::remove_dir_all(folder);
         }
         // by the signal itself, so that who waits for the command sees it; the status is for where it is ignored
         let _ = signals.thread_unblock().and_then(|()| raise(signal));

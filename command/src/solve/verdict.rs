@@ -35,6 +35,8 @@ impl Plan<'_> {
 pub struct Failing {
     pub row: usize,
     pub line: usize,
+    /// The line as it is shown, of the first of them.
+    text: String,
     pub sum: i64,
     pub bound: i64,
     pub by: i128,
@@ -92,7 +94,7 @@ impl Verdict {
         let completed = open::completed(plan.table, objective, assignment, self.claimed).map_err(|refusal| refused_row(plan, &refusal, &Assignment::new()))?;
         self.completed = completed.count;
         if completed.count > 0 {
-            self.remarks.push(format!("{}: variables that stand in the objective alone, without a value in the answer: {}. They {}", solver, completed.count, completed.how));
+            self.remarks.push(format!("{}: variables on which no constraint depends, without a value in the answer: {}. They {}", solver, completed.count, completed.how));
         }
         self.rows = rows(plan, &completed.assignment)?;
         self.judged = true;
@@ -207,20 +209,22 @@ fn rows(plan: &Plan, assignment: &Assignment) -> Result<Rows, Without> {
             Value::Constraint { sum, holds, .. } => {
                 found.constraints += 1;
                 if !holds {
-                    found.failing.push(Failing { row, line: 0, sum, bound: table.bounds[row], by: (i128::from(sum) - i128::from(table.bounds[row])).abs() });
+                    found.failing.push(Failing { row, line: 0, text: String::new(), sum, bound: table.bounds[row], by: (i128::from(sum) - i128::from(table.bounds[row])).abs() });
                 }
             }
         }
     }
-    number_lines(plan, &mut found.failing);
+    find_lines(plan, &mut found.failing);
     Ok(found)
 }
 
-fn number_lines(plan: &Plan, failing: &mut [Failing]) {
+/// One walk over the plan finds the lines of all of them.
+fn find_lines(plan: &Plan, failing: &mut [Failing]) {
     if !failing.is_empty() {
         let rows: Vec<usize> = failing.iter().map(|it| it.row).collect();
         let lines = report::lines_of_rows(&plan.input.bytes, plan.first, &rows);
-        failing.iter_mut().zip(lines).for_each(|(it, line)| it.line = line.number);
+        failing.iter_mut().zip(&lines).for_each(|(it, line)| it.line = line.number);
+        failing.iter_mut().zip(&lines).take(SHOWN).for_each(|(it, line)| it.text = report::excerpt(line, 0).0);
     }
 }
 
@@ -228,16 +232,14 @@ fn number_lines(plan: &Plan, failing: &mut [Failing]) {
 fn of_failing(plan: &Plan, solver: &str, rows: &Rows) -> String {
     let failing = &rows.failing;
     let mut text = format!("{}: the answer of {} is false: constraints that fail: {} of {}", plan.input.name, solver, failing.len(), rows.constraints);
-    let shown: Vec<usize> = failing.iter().take(SHOWN).map(|it| it.row).collect();
-    let lines = report::lines_of_rows(&plan.input.bytes, plan.first, &shown);
-    for (it, line) in failing.iter().zip(lines) {
+    for it in failing.iter().take(SHOWN) {
         let (asked, by) = match plan.table.kinds[it.row] {
             kind::AT_LEAST => ("at least", "short"),
             kind::AT_MOST => ("at most", "over"),
             _ => ("exactly", "off"),
         };
         let place = format!("line {} (row {}, counted from 0)", it.line, it.row);
-        text += &format!("\n{}\n    {}: the sum is {}, asked for is {} {}: {} by {}", report::excerpt(&line, 0).0, place, it.sum, asked, it.bound, by, it.by);
+        text += &format!("\n{}\n    {}: the sum is {}, asked for is {} {}: {} by {}", it.text, place, it.sum, asked, it.bound, by, it.by);
     }
     if failing.len() > SHOWN {
         text += &format!("\n    and {} more", failing.len() - SHOWN);
