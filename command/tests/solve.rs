@@ -252,6 +252,7 @@ fn time_ends_a_solver() {
     assert_eq!(done.out, "status  unknown (no answer in time)\n");
     let done = timed("time-half", "printf 's SATISFIABLE\\nv -x1 x2'\nexec sleep 60\n");
     assert!(done.status == 5 && done.err.contains("no answer in time"), "{}", done.err);
+    assert_eq!(done.out, "status  unknown (no answer in time)\n");
     let done = timed("time-unfinished", "echo 'o -2'; echo 'v -x1 x2 -x3 x4'\nexec sleep 60\n");
     assert!(done.status == 5 && !done.out.contains("held("), "{}", done.out);
     let done = timed("time-answered", &format!("{}exec sleep 60\n", printing(BEST)));
@@ -292,6 +293,7 @@ fn variables_of_the_objective_alone_may_be_open() {
 #[test]
 fn a_plan_that_is_refused_meets_no_solver() {
     let ran = path("ran");
+    let _ = fs::remove_file(&ran);
     let script = format!("touch {}\n", ran.to_str().unwrap());
     let done = solve("refused", "1 x1 >= 1;\n1 y1 >= 1;\n", &script, &[]);
     assert!(done.status == 1 && done.err.contains("refused (4) at line 2"), "{}", done.err);
@@ -339,6 +341,7 @@ fn program(folder: &Path, name: &str, script: &str) {
 #[test]
 fn the_first_that_is_installed_is_taken() {
     let (plan, folder) = (file("first.opb", PLAN), path("programs"));
+    let _ = fs::remove_dir_all(&folder);
     let toulbar2 =
         "#!/bin/sh\n[ \"$1\" = -s=3 ] || exit 9\necho 'New solution: -2 (0 backtracks, 0 nodes, depth 2)'\necho ' x1=v0 x2=v1 x3=v0 x4=v1'\necho 'Optimum: -2 in 0 backtracks and 0 nodes'\n";
     program(&folder, "toulbar2", toulbar2);

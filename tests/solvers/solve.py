@@ -25,7 +25,7 @@ from plans import Plan, value
 HERE = os.path.dirname(os.path.abspath(__file__))
 # plans with their optimum, None where there is none: the hall's; one comment between header and objective, which Sat4j 2.3.5 passes over with the line behind it; a CR in a comment, behind which clasp and
 # Sat4j would read a row; negated variables, which toulbar2 1.1.1 takes for others, and minisat+ not at all; a variable twice in a row, by which Sat4j comes to a false "none" or "best"; an equality that
-# cannot hold, and that clasp 3.3.5 calls kept
+# cannot hold, and that clasp 3.3.5 calls kept; a value beyond which toulbar2 finds no solution where it keeps decimal places
 STUMBLES = [
     (open(os.path.join(HERE, "../../examples/hall.opb")).read(), -374),
     ("* #variable= 3 #constraint= 1\n* night\nmin: 1 x1 2 x2 3 x3;\n1 x1 1 x2 >= 2;\n", 3),
@@ -35,6 +35,7 @@ STUMBLES = [
     ("min: 3 x2;\n-17 x1 8 x1 4 x1 = 0;\n1 x1 1 x2 >= 1;\n", 3),
     ("min: -14 x1 -16 x1 -17 x1 10 x1 1 x1 -4 x1;\n-8 x1 -1 x1 -4 x1 -17 x1 10 x1 -7 x1 >= -27;\n", -40),
     ("min: 1 x1;\n2 x1 2 x2 2 x3 = 3;\n", None),
+    ("min: %s;\n%s >= 11;\n" % (" ".join("600000000 x%d" % x for x in range(1, 12)), " ".join("1 x%d" % x for x in range(1, 12))), 6600000000),
 ]
 # with what fault of the solver, and how opb must end
 FAULTS = {"value": 3, "claim": 3, "row": 3, "bound": 3, "shift": 3, "silent": 4}
@@ -66,6 +67,11 @@ class Case:
         return solver != "toulbar2" or (self.plan.sums() and self.plan.weighs())
 
 
+    def is_false_none(self, solver):
+        """clasp 3.3.5 may take an equality for kept that cannot hold with what other rows fix."""
+        return solver == "clasp" and self.best is None and any(symbol == "=" for _, symbol, _ in self.plan.rows)
+
+
 def wrong_answer(case, solver, said):
     """What is wrong with an answer that `opb solve` calls good, if anything."""
     plan = case.plan
@@ -87,6 +93,8 @@ def wrong_answer(case, solver, said):
 def wrong_solve(case, opb, solver):
     done = case.opb(opb, "solve", case.file, "--json", "--solver", solver)
     wanted = 5 if case.best is None else 0
+    if done.returncode == 3 and case.is_false_none(solver):
+        return None
     if done.returncode != wanted:
         return "opb solve ends with %d, not %d: %s%s" % (done.returncode, wanted, done.stdout, done.stderr)
     said = json.loads(done.stdout)

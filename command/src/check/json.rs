@@ -45,7 +45,7 @@ pub fn of_trouble(name: &str, status: Status) -> String {
     printed(&object(name, status))
 }
 
-pub fn of(input: &Input, checked: &Checked, first: u32) -> String {
+pub(super) fn of(input: &Input, checked: &Checked, first: u32) -> String {
     let mut object = object(&input.name, checked.status());
     match checked {
         Checked::Accepted { sums, warnings, remark } => {

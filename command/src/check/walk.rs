@@ -141,7 +141,7 @@ mod tests {
     fn a_walk_is_of_one_mind_with_the_lines_and_with_the_whole() {
         let bar = Progress::of("", &Common { first: 1, quiet: true }).percent("", 0, 0);
         let mut accepted = 0;
-        for file in (0..20_000).map(file) {
+        for file in (0..4_000).map(file) {
             let (whole, walk) = (opb::count(&file, 1), Walk::through(&file, 1, usize::MAX, &bar).unwrap());
             let alone: Vec<u64> = crate::lines::lines(&file).filter_map(|line| Some(opb::count(line.bytes, 1).err()?.place + line.start as u64)).collect();
             assert_eq!(walk.refused, alone.len(), "{}", String::from_utf8_lossy(&file));
@@ -152,6 +152,6 @@ mod tests {
                 accepted += usize::from(size.terms > 0);
             }
         }
-        assert!(accepted > 200, "{}", accepted);
+        assert!(accepted > 40, "{}", accepted);
     }
 }

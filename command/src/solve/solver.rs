@@ -7,8 +7,9 @@ use std::path::Path;
 
 const SAT4J: &str = "/usr/share/java/org.sat4j.pb.jar";
 
-/// Those that are known by name, in the order in which they are looked for. Each is a Debian package of that name.
-const KNOWN: [(&str, &[&str]); 4] = [("clasp", &["clasp"]), ("minisat+", &["minisat+"]), ("sat4j", &["java", "-jar", SAT4J]), ("toulbar2", &["toulbar2", "-s=3"])];
+/// Those that are known by name, in the order in which they are looked for. Each is a Debian package of that name. toulbar2 keeps seven decimal places where it is not told that there are none, and
+/// then says "no solution" where the best value is beyond 5,693,438,679.
+const KNOWN: [(&str, &[&str]); 4] = [("clasp", &["clasp"]), ("minisat+", &["minisat+"]), ("sat4j", &["java", "-jar", SAT4J]), ("toulbar2", &["toulbar2", "-s=3", "-precision=0"])];
 
 /// A command, whose last word will be the plan's file, and the form of its lines.
 #[derive(Debug)]
