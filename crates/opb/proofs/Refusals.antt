@@ -389,6 +389,7 @@ evaluating-known-in t i ws ks =
     evaluating-by-in (isKnown w k) (assigned w) (knownOnes w k) t i
 
 without-ones-in : (o : Outcome Evaluated) → inOutcome (withoutOnes o) ≡ inOutcome o
+unfolding inOutcome
 without-ones-in (refused r) = refl
 without-ones-in (accepted (constraint sum h ones)) = refl
 without-ones-in (accepted (goal value ones)) = refl
