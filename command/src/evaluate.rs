@@ -66,7 +66,7 @@ fn answer(table: &Table, assignment: &Assignment, bar: &Bar) -> Result<Answer, R
     let mut answer = Answer::default();
     for row in (0..table.kinds.len()).filter(|row| table.kinds[*row] != kind::COMMENT) {
         bar.at(row);
-        answer.add(table, row, table.evaluate_front(row, assignment)?);
+        answer.add(table, row, table.judge(row, assignment)?);
     }
     Ok(answer)
 }

@@ -204,7 +204,7 @@ fn rows(plan: &Plan, assignment: &Assignment) -> Result<Rows, Without> {
     let mut found = Rows::default();
     let table = plan.table;
     for row in (0..table.kinds.len()).filter(|row| table.kinds[*row] != kind::COMMENT) {
-        match table.evaluate_front(row, assignment).map_err(|refusal| refused_row(plan, &refusal, assignment))? {
+        match table.judge(row, assignment).map_err(|refusal| refused_row(plan, &refusal, assignment))? {
             Value::Objective { value, .. } => found.value = Some(value),
             Value::Constraint { sum, holds, .. } => {
                 found.constraints += 1;
