@@ -130,6 +130,11 @@ impl Table {
         })
     }
 
+    /// The kind of a row, where there is the row and its number is a kind's.
+    pub fn kind(&self, row: usize) -> Option<Kind> {
+        self.kinds.get(row).and_then(|number| Kind::of(*number))
+    }
+
     /// The room of the shortest columns.
     pub fn size(&self) -> Size {
         Size { rows: self.kinds.len().min(self.firsts.len()).min(self.counts.len()).min(self.bounds.len()), terms: self.weights.len().min(self.literals.len()) }
