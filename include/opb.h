@@ -266,6 +266,17 @@ opb_value opb_evaluate_known(const uint8_t *kinds, size_t kinds_length,
                              size_t row, const uint64_t *values, size_t values_length,
                              const uint64_t *known, size_t known_length);
 
+/* The same without the ones, which are 0: for who judges many rows under one assignment, since the time that a call takes is that of the row's terms and not of the words. Changes nothing.
+ * Refusals: those of opb_evaluate. */
+opb_value opb_judge(const uint8_t *kinds, size_t kinds_length,
+                    const size_t *firsts, size_t firsts_length,
+                    const size_t *counts, size_t counts_length,
+                    const int64_t *bounds, size_t bounds_length,
+                    const int64_t *weights, size_t weights_length,
+                    const uint32_t *literals, size_t literals_length,
+                    size_t row, const uint64_t *values, size_t values_length,
+                    const uint64_t *known, size_t known_length);
+
 /* A table's rows as lines of an OPB file; `text` is what comment rows point into (for rows that were read: the file). `plain` 0 writes negated literals as `~x`; any other value is no-negated
  * mode, where a negated literal of weight w is written -w on the plain variable and the bound falls by w, an objective's offset grows by w. An "at most" row is written with each literal
  * negated, `>=`, and bound = weight sum less bound. An offset that is not 0 is a comment line behind its objective. Changes the first `length` bytes of `out`. Where `out_length` is 0,
@@ -340,6 +351,14 @@ static inline opb_value opb_columns_evaluate_known(const opb_columns *columns, s
     return opb_evaluate_known(columns->kinds, columns->rows, columns->firsts, columns->rows, columns->counts, columns->rows,
                               columns->bounds, columns->rows, columns->weights, columns->terms, columns->literals, columns->terms,
                               row, values, values_length, known, known_length);
+}
+
+/* opb_judge. */
+static inline opb_value opb_columns_judge(const opb_columns *columns, size_t row, const uint64_t *values, size_t values_length,
+                                          const uint64_t *known, size_t known_length) {
+    return opb_judge(columns->kinds, columns->rows, columns->firsts, columns->rows, columns->counts, columns->rows,
+                     columns->bounds, columns->rows, columns->weights, columns->terms, columns->literals, columns->terms,
+                     row, values, values_length, known, known_length);
 }
 
 /* opb_write. */

@@ -43,6 +43,7 @@ BY_VALUE(opb_length, opb_values, VALUES_GIVEN, VALUES_HANDED)
 #define KNOWN_GIVEN COLUMNS(const, ), size_t row, const uint64_t *values, size_t values_length, const uint64_t *known, size_t known_length
 #define KNOWN_HANDED LENT(), row, values, values_length, known, known_length
 BY_VALUE(opb_value, opb_evaluate_known, KNOWN_GIVEN, KNOWN_HANDED)
+BY_VALUE(opb_value, opb_judge, KNOWN_GIVEN, KNOWN_HANDED)
 
 #define WRITE_GIVEN COLUMNS(const, ), const uint8_t *text, size_t text_length, uint32_t first, uint8_t plain, uint8_t *out, size_t out_length
 #define WRITE_HANDED LENT(), text, text_length, first, plain, out, out_length

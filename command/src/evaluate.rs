@@ -4,7 +4,7 @@ use crate::options::{Common, Evaluate};
 use crate::output::{deliver, say, Status};
 use crate::progress::{Bar, Progress};
 use crate::{report, values};
-use opb::{kind, Assignment, Reason, Refusal, Table, Value};
+use opb::{Assignment, Kind, Reason, Refusal, Table, Value};
 use std::fmt::Write;
 
 /// A line for each row that has a value; how many constraints there are, and the rows of those that fail.
@@ -64,9 +64,9 @@ fn refused_values(output: &Input, refusal: &Refusal) -> Status {
 
 fn answer(table: &Table, assignment: &Assignment, bar: &Bar) -> Result<Answer, Refusal> {
     let mut answer = Answer::default();
-    for row in (0..table.kinds.len()).filter(|row| table.kinds[*row] != kind::COMMENT) {
+    for row in (0..table.kinds.len()).filter(|row| table.kind(*row) != Some(Kind::Comment)) {
         bar.at(row);
-        answer.add(table, row, table.evaluate_front(row, assignment)?);
+        answer.add(table, row, table.judge(row, assignment)?);
     }
     Ok(answer)
 }
@@ -81,17 +81,17 @@ impl Answer {
                 if !holds {
                     self.failing.push(row);
                 }
-                writeln!(self.lines, "{}\t{}\t{}\t{}", word(table.kinds[row]), sum, table.bounds[row], if holds { "holds" } else { "fails" })
+                writeln!(self.lines, "{}\t{}\t{}\t{}", word(table.kind(row)), sum, table.bounds[row], if holds { "holds" } else { "fails" })
             }
         };
     }
 }
 
 /// A constraint's kind, as the listing says it.
-fn word(kind: u8) -> &'static str {
+fn word(kind: Option<Kind>) -> &'static str {
     match kind {
-        kind::AT_LEAST => "ge",
-        kind::AT_MOST => "le",
+        Some(Kind::AtLeast) => "ge",
+        Some(Kind::AtMost) => "le",
         _ => "eq",
     }
 }

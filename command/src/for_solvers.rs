@@ -3,7 +3,7 @@
 use crate::header::{is_header, Header};
 use crate::names::{comment, of_text};
 use crate::single::mend;
-use opb::{kind, Literals, Reason, Refusal, Table};
+use opb::{Kind, Literals, Reason, Refusal, Table};
 
 /// The first number of a variable, to solvers.
 const FIRST: u32 = 1;
@@ -43,7 +43,7 @@ pub fn for_solvers(file: &[u8], table: &Table, first: u32) -> Result<ForSolvers,
 
 /// The row of the objective, where it has terms.
 fn objective(table: &Table) -> Result<Option<usize>, NotForSolvers> {
-    let rows: Vec<usize> = (0..table.kinds.len()).filter(|row| table.kinds[*row] == kind::OBJECTIVE).collect();
+    let rows: Vec<usize> = (0..table.kinds.len()).filter(|row| table.kind(*row) == Some(Kind::Objective)).collect();
     match rows.as_slice() {
         [] => Ok(None),
         [row] => Ok(Some(*row).filter(|row| table.counts[*row] > 0)),
@@ -51,19 +51,19 @@ fn objective(table: &Table) -> Result<Option<usize>, NotForSolvers> {
     }
 }
 
-fn is_constraint(kind: u8) -> bool {
-    kind != kind::COMMENT && kind != kind::OBJECTIVE
+fn is_constraint(table: &Table, row: usize) -> bool {
+    table.kind(row).map_or(false, Kind::is_constraint)
 }
 
 /// The row behind the header: the objective; without one, a constraint. Where a single comment stands there, Sat4j 2.3.5 takes the line behind that for a comment, too.
 fn first_row(table: &Table, objective: Option<usize>) -> Option<usize> {
-    objective.or_else(|| table.kinds.iter().position(|kind| is_constraint(*kind)))
+    objective.or_else(|| (0..table.kinds.len()).find(|row| is_constraint(table, *row)))
 }
 
 /// What is true of the table as it is written: no variable is left out of it.
 fn header(table: &Table) -> Header {
     let highest = table.literals.iter().max().map_or(0, |literal| u64::from(literal / 2) + u64::from(FIRST));
-    Header { variables: highest, constraints: table.kinds.iter().filter(|kind| is_constraint(**kind)).count() as u64 }
+    Header { variables: highest, constraints: (0..table.kinds.len()).filter(|row| is_constraint(table, *row)).count() as u64 }
 }
 
 /// What the writer says behind the objective: a negated literal of weight w is written as -w on its variable, and the offset grows by w. A sum beyond 64 bits is a refusal of the writer.
@@ -96,9 +96,9 @@ impl Lines {
             self.terms(row);
         }
         for row in (0..self.normal.kinds.len()).filter(|row| Some(*row) != lead) {
-            match self.normal.kinds[row] {
-                kind::OBJECTIVE => {}
-                kind::COMMENT => self.plan_comment(row, comment(file, &self.normal, row), first),
+            match self.normal.kind(row) {
+                Some(Kind::Objective) => {}
+                Some(Kind::Comment) => self.plan_comment(row, comment(file, &self.normal, row), first),
                 _ => self.terms(row),
             }
         }
@@ -137,7 +137,7 @@ impl Lines {
     fn comment(&mut self, from: usize, text: &[u8]) {
         let first = self.text.len();
         self.text.extend(text.iter().map(|byte| if matches!(byte, 0 | b'\r') { b' ' } else { *byte }));
-        self.row(from, kind::COMMENT, first, text.len(), 0);
+        self.row(from, Kind::Comment.number(), first, text.len(), 0);
     }
 
     /// An old header is left out; a name gets its variable's new number, and is left out where it has none.

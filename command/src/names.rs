@@ -1,5 +1,5 @@
 //! Names of variables: comments `* output x1 held(satyr,atrium,1)`, closed by `* 0`, as clasp has them (`clasp --parse-ext`). Our reader and writer keep them as comments.
-use opb::{kind, Table};
+use opb::{Kind, Table};
 use std::collections::HashMap;
 
 /// The names of a plan's variables, by variable index.
@@ -27,7 +27,7 @@ impl<'a> Names<'a> {
     /// The names in a plan that was read. Of two names of one variable the first counts.
     pub fn of(file: &'a [u8], table: &Table, first: u32) -> Names<'a> {
         let mut names = HashMap::new();
-        for row in (0..table.kinds.len()).filter(|row| table.kinds[*row] == kind::COMMENT) {
+        for row in (0..table.kinds.len()).filter(|row| table.kind(*row) == Some(Kind::Comment)) {
             if let Some((number, name)) = of_text(comment(file, table, row)) {
                 if let Some(index) = number.checked_sub(first) {
                     names.entry(index).or_insert(name);

@@ -1,6 +1,6 @@
 //! Rows in which each variable stands once, and with a weight that is not 0: Sat4j 2.3.5 has wrong answers where a variable stands in a row twice, toulbar2 1.1.1 where a weight is 0, and a wrong
 //! "none" cannot be found out. Only such rows are touched; each means what it meant.
-use opb::{kind, Reason, Refusal, Table};
+use opb::{Kind, Reason, Refusal, Table};
 use std::collections::{HashMap, HashSet};
 use std::ops::Range;
 
@@ -19,7 +19,7 @@ fn terms_of(table: &Table, row: usize) -> Range<usize> {
 /// is asked for it.
 pub fn mend(table: &mut Table) -> Result<(), Refusal> {
     let mut room = Vec::new();
-    let rows: Vec<usize> = (0..table.kinds.len()).filter(|row| table.kinds[*row] != kind::COMMENT && is_to_mend(table, *row, &mut room)).collect();
+    let rows: Vec<usize> = (0..table.kinds.len()).filter(|row| table.kind(*row) != Some(Kind::Comment) && is_to_mend(table, *row, &mut room)).collect();
     for row in &rows {
         add_up(table, *row)?;
     }
@@ -47,7 +47,7 @@ fn is_to_mend(table: &Table, row: usize, room: &mut Vec<u32>) -> bool {
 fn add_up(table: &mut Table, row: usize) -> Result<(), Refusal> {
     let (terms, constant) = added_up(&table.weights[terms_of(table, row)], &table.literals[terms_of(table, row)]);
     let bound = table.bounds[row];
-    let moved = if table.kinds[row] == kind::OBJECTIVE { bound.checked_add(constant) } else { bound.checked_sub(constant) };
+    let moved = if table.kind(row) == Some(Kind::Objective) { bound.checked_add(constant) } else { bound.checked_sub(constant) };
     table.bounds[row] = moved.ok_or(Refusal { reason: Reason::Overflow, place: row as u64 })?;
     put(table, row, &terms);
     Ok(())
@@ -85,7 +85,7 @@ fn without_weight(table: &Table, rows: &[usize]) -> HashSet<u32> {
     let zeros = rows.iter().flat_map(|row| terms_of(table, *row)).filter(|term| table.weights[*term] == 0);
     let mut zeros: HashSet<u32> = zeros.map(|term| variable(table.literals[term])).collect();
     if !zeros.is_empty() {
-        let all = (0..table.kinds.len()).filter(|row| table.kinds[*row] != kind::COMMENT).flat_map(|row| terms_of(table, row));
+        let all = (0..table.kinds.len()).filter(|row| table.kind(*row) != Some(Kind::Comment)).flat_map(|row| terms_of(table, row));
         for term in all.filter(|term| table.weights[*term] != 0) {
             zeros.remove(&variable(table.literals[term]));
         }

@@ -1,5 +1,5 @@
 //! `opb rewrite --for-solvers`: the bytes that it prints, and that they mean what the plan means.
-use opb::{kind, Table, Value};
+use opb::{Kind, Table, Value};
 use std::collections::HashSet;
 use std::io::Write;
 use std::process::{Command, Stdio};
@@ -173,7 +173,7 @@ impl Numbers {
 /// The constraints' truths in their order, and the objective's value.
 fn meaning(table: &Table, assignment: u64) -> (Vec<bool>, Option<i64>) {
     let (mut truths, mut goal) = (Vec::new(), None);
-    for row in (0..table.kinds.len()).filter(|row| table.kinds[*row] != kind::COMMENT) {
+    for row in (0..table.kinds.len()).filter(|row| table.kind(*row) != Some(Kind::Comment)) {
         match table.evaluate(row, &[assignment]).unwrap() {
             Value::Constraint { holds, .. } => truths.push(holds),
             Value::Objective { value, .. } => goal = Some(value),
@@ -190,7 +190,7 @@ fn offset(written: &str) -> i64 {
 
 fn has_twice(table: &Table, row: usize) -> bool {
     let literals = table.literals.iter().skip(table.firsts[row]).take(table.counts[row]);
-    table.kinds[row] != kind::COMMENT && literals.map(|literal| literal / 2).collect::<HashSet<u32>>().len() < table.counts[row]
+    table.kind(row) != Some(Kind::Comment) && literals.map(|literal| literal / 2).collect::<HashSet<u32>>().len() < table.counts[row]
 }
 
 #[test]

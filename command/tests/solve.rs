@@ -78,7 +78,7 @@ fn object(done: &Done) -> Value {
 #[test]
 fn a_true_answer_is_checked_in_each_form() {
     let lines =
-        "status  optimum (the solver's word alone)\nvalue   0 (as sh claims, checked)\ntrue    2 of 4 variables\nheld(satyr,atrium,1)\nx4\nchecked every row holds, checked: 4 of 4 constraints\n";
+        "status  optimum (the solver's word alone)\nvalue   0 (as sh claims, checked)\ntrue    2 of 4 variables\nheld(satyr,atrium,1)\nx4\nrows    every row holds, checked: 4 of 4 constraints\n";
     for (name, values) in [("form-x", "v -x1 x2\nv -x3 x4"), ("form-tilde", "v ~x1 x2 ~x3 x4"), ("form-number", "v -1 2 -3\nv 4 0"), ("form-bits", "v 0101")] {
         let done = solve(name, PLAN, &printing(&format!("c words\no 1\no -2\n{}\ns OPTIMUM FOUND\n", values)), &[]);
         assert_eq!((done.status, done.out.as_str(), done.err.as_str()), (0, lines, ""), "{}", name);
@@ -97,11 +97,11 @@ fn what_is_not_claimed_is_not_compared() {
     let script = "echo 'o 77'; echo 's OPTIMUM FOUND'; echo 'v x1'\n";
     for (name, plan) in [("no-objective", "1 x1 >= 1;\n"), ("no-terms", "min: ;\n1 x1 >= 1;\n")] {
         let done = solve(name, plan, script, &[]);
-        assert_eq!((done.status, done.out.as_str()), (0, "status  satisfiable\ntrue    1 of 1 variables\nx1\nchecked every row holds, checked: 1 of 1 constraints\n"), "{}", done.err);
+        assert_eq!((done.status, done.out.as_str()), (0, "status  satisfiable\ntrue    1 of 1 variables\nx1\nrows    every row holds, checked: 1 of 1 constraints\n"), "{}", done.err);
     }
     let done = solve("no-constraints", "min: -3 x1;\n", "echo 'o -3'; echo 's OPTIMUM FOUND'; echo 'v x1'\n", &[]);
     assert_eq!(done.status, 0);
-    assert!(done.out.ends_with("x1\nchecked every row holds, checked: 0 of 0 constraints\n"), "{}", done.out);
+    assert!(done.out.ends_with("x1\nrows    every row holds, checked: 0 of 0 constraints\n"), "{}", done.out);
 }
 
 #[test]

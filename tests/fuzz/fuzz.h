@@ -69,6 +69,7 @@ opb_table library_read(const uint8_t *file, size_t length, uint32_t first, const
 opb_table library_normalise(const columns *t, const columns *out);
 opb_value library_evaluate(const columns *t, size_t row, const uint64_t *words, size_t words_length);
 opb_value library_evaluate_known(const columns *t, size_t row, const uint64_t *values, size_t values_length, const uint64_t *known, size_t known_length);
+opb_value library_judge(const columns *t, size_t row, const uint64_t *values, size_t values_length, const uint64_t *known, size_t known_length);
 opb_length library_values(const uint8_t *block, size_t block_length, uint64_t length, uint64_t *values, size_t values_length, uint64_t *known, size_t known_length);
 opb_text library_write(const columns *t, const uint8_t *text, size_t text_length, uint32_t first, int plain, uint8_t *out, size_t out_length);
 opb_text library_list(const columns *t, size_t rows, uint32_t first, uint8_t *out, size_t out_length);

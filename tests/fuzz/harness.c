@@ -266,6 +266,9 @@ static void check_known_value(const columns *t, size_t row, const uint64_t *word
     check(a.refusal == model.refusal && a.place == model.place, "evaluating what is known, the refusal or place differs");
     check(a.value == model.value && a.holds == model.holds, "evaluating what is known, a sum, a value or whether a row holds differs");
     check(a.ones == model.ones, "evaluating what is known, the ones differ");
+    opb_value j = library_judge(t, row, words, count, known, known_count);
+    check(j.refusal == model.refusal && j.place == model.place, "judging, the refusal or place differs");
+    check(j.value == model.value && j.holds == model.holds && j.ones == 0, "judging, a sum, a value or whether a row holds differs");
     check(a.refusal || (all.refusal == 0 && a.value == all.value && a.holds == all.holds && a.ones <= all.ones), "what is known gives another value than all does");
     check_kept(KNOWN, 1);
 }

@@ -11,7 +11,7 @@
 enum {
     NONE, BOUND_OFF_BY_ONE, LESS_AS_AT_MOST, DROPPED_ROW, DROPPED_REST, MINUS_UNREAD, INDEX_LIMIT_OFF, COUNT_DISAGREES, NEEDED_MADE_UP, REFUSED_AND_FILLED, BEYOND_THE_COUNT, PAST_THE_END,
     BEFORE_THE_START, ONLY_COPIES, LESS_FOR_AT_MOST, ONES_MADE_UP, FLIP_WITHOUT_NEGATING, OFFSET_FORGOTTEN, OUTPUT_PAST_THE_END, LIST_LENGTH_OFF,
-    KNOWN_NOT_LOOKED_AT, VALUE_NOT_KNOWN, REFUSED_AND_SET, LENGTH_FORGOTTEN, KNOWN_PAST_THE_END, ZERO_AS_STRING, UNKNOWN_AS_FALSE, FAULTS
+    KNOWN_NOT_LOOKED_AT, VALUE_NOT_KNOWN, REFUSED_AND_SET, LENGTH_FORGOTTEN, KNOWN_PAST_THE_END, ZERO_AS_STRING, UNKNOWN_AS_FALSE, JUDGED_AS_HELD, FAULTS
 };
 
 static const char *const names[FAULTS] = {
@@ -41,6 +41,7 @@ static const char *const names[FAULTS] = {
     [KNOWN_PAST_THE_END] = "known_past_the_end",       /* values: the word behind the known words is looked at */
     [ZERO_AS_STRING] = "zero_as_string",               /* values: `v 0` is a string of one variable */
     [UNKNOWN_AS_FALSE] = "unknown_as_false",           /* evaluate known: a variable that is not known is false */
+    [JUDGED_AS_HELD] = "judged_as_held",               /* judge: every constraint holds */
 };
 
 static int fault;
@@ -163,6 +164,12 @@ opb_value library_evaluate_known(const columns *t, size_t row, const uint64_t *v
     if (fault != UNKNOWN_AS_FALSE || a.refusal != OPB_REFUSED_ASSIGNMENT || values_length > known_length) return a;
     for (size_t i = 0; i < values_length; i++) meant[i] = values[i] & known[i];
     return opb_evaluate(SPREAD(t), row, meant, values_length);
+}
+
+opb_value library_judge(const columns *t, size_t row, const uint64_t *values, size_t values_length, const uint64_t *known, size_t known_length) {
+    opb_value a = opb_judge(SPREAD(t), row, values, values_length, known, known_length);
+    if (fault == JUDGED_AS_HELD && a.refusal == 0 && a.holds == 0) a.holds = 1;
+    return a;
 }
 
 /* ---- value lines */

@@ -286,6 +286,19 @@ static void evaluates_what_is_known(void) {
     check(value_refused(opb_evaluate_known(COLUMNS(t, 4, 4), 2, values, 1, two, 2), OPB_REFUSED_OVERFLOW, 2), "weights above the limit before what is not known");
 }
 
+static void judges(void) {
+    const uint64_t values[] = {5}, all[] = {7}, two[] = {3, ~(uint64_t)0};
+    table t = blank();
+    read_text(PLAN, 1, &t, ROOM, ROOM);
+    check(is_value(opb_judge(COLUMNS(t, 4, 4), 1, values, 1, all, 1), 1, 1, 0), "3 x1 -2 ~x2 >= 1 is judged to hold, and no ones are counted");
+    check(is_value(opb_judge(COLUMNS(t, 4, 4), 3, values, 1, two, 2), 1, 0, 0), "1 x1 < 1 is judged not to");
+    check(is_value(opb_judge(COLUMNS(t, 4, 4), 2, values, 1, all, 1), 4, 2, 0), "the objective's value, judged");
+    check(value_refused(opb_judge(COLUMNS(t, 4, 4), 2, values, 1, two, 2), OPB_REFUSED_ASSIGNMENT, 2), "x3 is not known, judged");
+    check(value_refused(opb_judge(COLUMNS(t, 4, 4), 2, values, 1, NULL, 0), OPB_REFUSED_ASSIGNMENT, 2), "no known words, judged");
+    check(value_refused(opb_judge(COLUMNS(t, 4, 4), 0, values, 1, all, 1), OPB_REFUSED_ROW, 0), "a comment is not judged");
+    check(value_refused(opb_judge(COLUMNS(t, 4, 4), 4, values, 1, all, 1), OPB_REFUSED_ROW, 4), "a missing row is not judged");
+}
+
 /* ---- writing and listing */
 
 static uint8_t out[512];
@@ -413,6 +426,8 @@ static void evaluates_a_struct(void) {
     check(is_value(opb_columns_evaluate_known(&c, 3, values, 1, two, 2), 1, 0, 1), "a struct's row where its variables are known");
     check(value_refused(opb_columns_evaluate_known(&c, 2, values, 1, two, 2), OPB_REFUSED_ASSIGNMENT, 2), "a struct's row where one is not");
     check(value_refused(opb_columns_evaluate_known(&c, 3, values, 1, two, 0), OPB_REFUSED_ASSIGNMENT, 3), "a struct's row where none is");
+    check(is_value(opb_columns_judge(&c, 3, values, 1, two, 2), 1, 0, 0), "a struct's row judged");
+    check(value_refused(opb_columns_judge(&c, 3, values, 1, two, 0), OPB_REFUSED_ASSIGNMENT, 3), "a struct's row judged where nothing is known");
 }
 
 static void writes_and_lists_a_struct(void) {
@@ -470,6 +485,7 @@ int main(void) {
     refuses_values();
     needs_words_in_both_rows();
     evaluates_what_is_known();
+    judges();
     writes();
     refuses_to_write();
     lists();

@@ -25,16 +25,18 @@ def evaluate(kinds, firsts, counts, bounds, weights, literals, row, words, known
         return ('value', s + b, ones)
     holds = {'ge': s >= b, 'le': s <= b, 'eq': s == b}[READ[k]]
     return ('sum', s, holds, ones)
-def line(name, row, r):
+# where some variables are known, the row is judged, too: no ones are counted
+def line(name, row, r, known=None):
     if r[0] == 'no': t = 'refused %d at %d' % (r[1], row)
     elif r[0] == 'value': t = 'value %d, ones %d' % r[1:]
     else: t = 'sum %d, %s, ones %d' % (r[1], 'holds' if r[2] else 'does not hold', r[3])
     print('%s: %s' % (name.decode(), t))
+    if known is not None: line(b'  judged', row, r if r[0] == 'no' else r[:-1] + (0,))
 def row(name, kind, bound, ws, cs, words, known=None):
-    line(name, 0, evaluate([kind], [0], [len(ws)], [bound], ws, cs, 0, words, known))
+    line(name, 0, evaluate([kind], [0], [len(ws)], [bound], ws, cs, 0, words, known), known)
 def shared(name, i, known=None):
     B = 18446744073709551615
-    line(name, i, evaluate([0, 1, 4, 3, 1, 3, 2, 2, 1], [0, 0, 1, 3, 2, 3, 4, 5, B], [3, 2, 2, 1, 2, 2, 0, 0, B], [0, 5, 7] + 6 * [0], [5, -3, 2, M], [0, 2, 5, 128], i, [5], known))
+    line(name, i, evaluate([0, 1, 4, 3, 1, 3, 2, 2, 1], [0, 0, 1, 3, 2, 3, 4, 5, B], [3, 2, 2, 1, 2, 2, 0, 0, B], [0, 5, 7] + 6 * [0], [5, -3, 2, M], [0, 2, 5, 128], i, [5], known), known)
 def uneven(name, i):
     line(name, i, evaluate([1, 1, 1, 1], [0, 2, 0], [3, 2], [6, 0, 0, 0, 0], [1, 2, 3, 4], [0, 2, 4], i, [7]))
 def pair(name, kind, bound, word): row(name, kind, bound, [3, -2], [0, 3], [word])

@@ -72,6 +72,12 @@ extern "C" {
         row: usize, values: *const u64, values_length: usize, known: *const u64, known_length: usize,
     ) -> OpbValue;
 
+    fn opb_judge(
+        kinds: *const u8, kinds_length: usize, firsts: *const usize, firsts_length: usize, counts: *const usize, counts_length: usize,
+        bounds: *const i64, bounds_length: usize, weights: *const i64, weights_length: usize, literals: *const u32, literals_length: usize,
+        row: usize, values: *const u64, values_length: usize, known: *const u64, known_length: usize,
+    ) -> OpbValue;
+
     fn opb_write(
         kinds: *const u8, kinds_length: usize, firsts: *const usize, firsts_length: usize, counts: *const usize, counts_length: usize,
         bounds: *const i64, bounds_length: usize, weights: *const i64, weights_length: usize, literals: *const u32, literals_length: usize,
@@ -168,13 +174,25 @@ pub(crate) fn values(block: &[u8], a: &mut Assignment) -> Result<u64, Refusal> {
 }
 
 #[rustfmt::skip]
-pub(crate) fn evaluate_known(t: &Table, row: usize, values: &[u64], known: &[u64]) -> Result<Value, Refusal> {
+pub(crate) fn evaluate_known(t: &Table, row: usize, a: &Assignment) -> Result<Value, Refusal> {
     // SAFETY: each pointer and length are of one slice, borrowed for the call; nothing is changed.
     value_of(unsafe {
         opb_evaluate_known(
             t.kinds.as_ptr(), t.kinds.len(), t.firsts.as_ptr(), t.firsts.len(), t.counts.as_ptr(), t.counts.len(),
             t.bounds.as_ptr(), t.bounds.len(), t.weights.as_ptr(), t.weights.len(), t.literals.as_ptr(), t.literals.len(),
-            row, values.as_ptr(), values.len(), known.as_ptr(), known.len(),
+            row, a.values.as_ptr(), a.values.len(), a.known.as_ptr(), a.known.len(),
+        )
+    })
+}
+
+#[rustfmt::skip]
+pub(crate) fn judge(t: &Table, row: usize, a: &Assignment) -> Result<Value, Refusal> {
+    // SAFETY: each pointer and length are of one slice, borrowed for the call; nothing is changed.
+    value_of(unsafe {
+        opb_judge(
+            t.kinds.as_ptr(), t.kinds.len(), t.firsts.as_ptr(), t.firsts.len(), t.counts.as_ptr(), t.counts.len(),
+            t.bounds.as_ptr(), t.bounds.len(), t.weights.as_ptr(), t.weights.len(), t.literals.as_ptr(), t.literals.len(),
+            row, a.values.as_ptr(), a.values.len(), a.known.as_ptr(), a.known.len(),
         )
     })
 }

@@ -61,18 +61,3 @@ impl From<Kind> for u8 {
         kind.number()
     }
 }
-
-/// The numbers of the kinds.
-#[doc(hidden)]
-#[allow(missing_docs)]
-pub mod kind {
-    pub const COMMENT: u8 = 0;
-    pub const AT_LEAST: u8 = 1;
-    pub const AT_MOST: u8 = 2;
-    pub const EQUAL: u8 = 3;
-    pub const OBJECTIVE: u8 = 4;
-    pub const CLAUSE: u8 = 5;
-    pub const CARDINALITY_AT_LEAST: u8 = 6;
-    pub const CARDINALITY_AT_MOST: u8 = 7;
-    pub const CARDINALITY_EQUAL: u8 = 8;
-}

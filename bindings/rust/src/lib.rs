@@ -25,7 +25,6 @@ mod table;
 
 pub use assignment::Assignment;
 #[doc(hidden)]
-pub use kinds::kind;
 pub use kinds::Kind;
 pub use position::{position, Position};
 pub use refusal::{Reason, Refusal};

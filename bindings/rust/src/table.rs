@@ -130,6 +130,11 @@ impl Table {
         })
     }
 
+    /// The kind of a row, where there is the row and its number is a kind's.
+    pub fn kind(&self, row: usize) -> Option<Kind> {
+        self.kinds.get(row).and_then(|number| Kind::of(*number))
+    }
+
     /// The room of the shortest columns.
     pub fn size(&self) -> Size {
         Size { rows: self.kinds.len().min(self.firsts.len()).min(self.counts.len()).min(self.bounds.len()), terms: self.weights.len().min(self.literals.len()) }
@@ -214,30 +219,20 @@ impl Table {
     /// # Ok::<(), opb::Refusal>(())
     /// ```
     pub fn evaluate_known(&self, row: usize, assignment: &Assignment) -> Result<Value, Refusal> {
-        ffi::evaluate_known(self, row, &assignment.values, &assignment.known)
+        ffi::evaluate_known(self, row, assignment)
     }
 
-    /// The same row, sum, truth and refusal, over the words up to the row's highest variable alone, whose ones are counted: each row costs time for every word that it is lent, so where there are many
-    /// rows and many variables this is the call to make.
+    /// The same without the ones, which are 0. It takes the time of the row's terms, however many words the assignment has: where there are many rows this is the call to make.
     ///
     /// ```
     /// let table = opb::read(b"3 x1 2 x2 <= 4;\n1 x100 >= 1;\n", 1)?;
     /// let mut assignment = opb::Assignment::new();
     /// assignment.extend(b"v x1 -x2 x100")?;
-    /// assert_eq!(table.evaluate_front(0, &assignment)?, opb::Value::Constraint { sum: 3, holds: true, ones: 1 });
-    /// assert_eq!(table.evaluate_front(1, &assignment)?, opb::Value::Constraint { sum: 1, holds: true, ones: 2 });
+    /// assert_eq!(table.judge(0, &assignment)?, opb::Value::Constraint { sum: 3, holds: true, ones: 0 });
     /// # Ok::<(), opb::Refusal>(())
     /// ```
-    pub fn evaluate_front(&self, row: usize, assignment: &Assignment) -> Result<Value, Refusal> {
-        let words = self.words_of(row).unwrap_or(usize::MAX).min(assignment.values.len());
-        ffi::evaluate_known(self, row, &assignment.values[..words], &assignment.known[..words])
-    }
-
-    /// How many words the variables of a row need; none, where the table has no such row or not its terms.
-    fn words_of(&self, row: usize) -> Option<usize> {
-        let (first, count) = (*self.firsts.get(row)?, *self.counts.get(row)?);
-        let terms = self.literals.get(first..first.checked_add(count)?)?;
-        Some(terms.iter().max().map_or(0, |literal| *literal as usize / 128 + 1))
+    pub fn judge(&self, row: usize, assignment: &Assignment) -> Result<Value, Refusal> {
+        ffi::judge(self, row, assignment)
     }
 
     /// The rows as lines of an OPB file. Comment rows point into `text`: for rows that were read, the file.

@@ -208,18 +208,16 @@ fn a_row_is_evaluated_where_its_variables_are_known() {
 }
 
 #[test]
-fn over_the_words_in_front_a_row_says_the_same_with_other_ones() {
-    let mut table = opb::read(b"* far\n1 x1 -2 x64 >= -1;\n1 ~x65 >= 1;\nmin: 4 x200;\n1 x201 >= 0;\n", 1).unwrap();
-    let known = assignment(&[b"v x1 x64 -x65 x200"]);
-    assert_eq!(table.evaluate_front(1, &known), Ok(Value::Constraint { sum: -1, holds: true, ones: 2 }));
-    assert_eq!(table.evaluate_front(2, &known), Ok(Value::Constraint { sum: 1, holds: true, ones: 2 }));
-    assert_eq!(table.evaluate_front(3, &known), Ok(Value::Objective { value: 4, ones: 3 }));
-    assert_eq!(table.evaluate_front(4, &known), refusal(Reason::Assignment, 4));
-    assert_eq!(table.evaluate_front(1, &Assignment::new()), refusal(Reason::Assignment, 1));
-    assert_eq!(table.evaluate_front(0, &known), refusal(Reason::Row, 0));
-    assert_eq!(table.evaluate_front(5, &known), refusal(Reason::Row, 5));
-    table.firsts[1] = usize::MAX;
-    assert_eq!(table.evaluate_front(1, &known), refusal(Reason::Row, 1));
+fn a_row_is_judged_without_the_ones() {
+    let table = read(PLAN, 1).unwrap();
+    let known = assignment(&[b"v x1 -x2 x70"]);
+    assert_eq!(table.judge(1, &known), Ok(Value::Constraint { sum: 1, holds: true, ones: 0 }));
+    assert_eq!(table.judge(3, &known), Ok(Value::Constraint { sum: 1, holds: false, ones: 0 }));
+    assert_eq!(table.judge(2, &known), refusal(Reason::Assignment, 2));
+    assert_eq!(table.judge(2, &assignment(&[b"v 001"])), Ok(Value::Objective { value: 4, ones: 0 }));
+    assert_eq!(table.judge(1, &Assignment::new()), refusal(Reason::Assignment, 1));
+    assert_eq!(table.judge(0, &known), refusal(Reason::Row, 0));
+    assert_eq!(table.judge(4, &known), refusal(Reason::Row, 4));
 }
 
 #[test]

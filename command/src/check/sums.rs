@@ -1,7 +1,7 @@
 //! What the chunks of a file add up to.
 use crate::header::{is_header, Header};
 use crate::names;
-use opb::{kind, Size, Table};
+use opb::{Kind, Size, Table};
 use std::collections::HashSet;
 
 /// Bits to a page: few enough that a single high variable costs little.
@@ -85,9 +85,9 @@ impl<'a> Sums<'a> {
         self.rows += size.rows;
         self.terms += size.terms;
         for row in 0..size.rows {
-            match table.kinds[row] {
-                kind::COMMENT => self.comment(names::comment(chunk, table, row), at + table.firsts[row], first),
-                kind::OBJECTIVE => self.objectives += 1,
+            match table.kind(row) {
+                Some(Kind::Comment) => self.comment(names::comment(chunk, table, row), at + table.firsts[row], first),
+                Some(Kind::Objective) => self.objectives += 1,
                 _ => (),
             }
         }

@@ -1,6 +1,6 @@
 //! Variables that an answer leaves open. Sat4j prints no value for a variable that stands in the objective alone as long as it has not had to choose one; its `o` line counts it as false. In the solver's
 //! file a variable stands in the objective alone where its weights in each constraint of the plan add up to 0.
-use opb::{kind, Assignment, Refusal, Table, Value};
+use opb::{Assignment, Kind, Refusal, Table, Value};
 use std::collections::{BTreeMap, BTreeSet};
 use std::fmt::Write;
 
@@ -28,9 +28,9 @@ fn without_value(table: &Table, row: usize, assignment: &Assignment) -> BTreeMap
 /// The variables of the plan that have no value and on which no constraint depends, each with its weight in the objective.
 fn open_variables(table: &Table, assignment: &Assignment) -> BTreeMap<u32, i128> {
     let (mut open, mut asked_for) = (BTreeMap::new(), BTreeSet::new());
-    for row in (0..table.kinds.len()).filter(|row| table.kinds[*row] != kind::COMMENT) {
+    for row in (0..table.kinds.len()).filter(|row| table.kind(*row) != Some(Kind::Comment)) {
         let found = without_value(table, row, assignment);
-        if table.kinds[row] == kind::OBJECTIVE {
+        if table.kind(row) == Some(Kind::Objective) {
             open.extend(found);
         } else {
             found.keys().for_each(|index| {
@@ -56,7 +56,7 @@ fn with(assignment: &Assignment, open: &BTreeMap<u32, i128>, is_true: impl Fn(i1
 }
 
 fn is_worth(table: &Table, objective: usize, assignment: &Assignment, claimed: i128) -> bool {
-    matches!(table.evaluate_front(objective, assignment), Ok(Value::Objective { value, .. }) if i128::from(value) == claimed)
+    matches!(table.judge(objective, assignment), Ok(Value::Objective { value, .. }) if i128::from(value) == claimed)
 }
 
 /// By weight, which is best; as false where the claimed value counts them so: a solver that was stopped may not have come to them.

@@ -7,7 +7,7 @@ use crate::input::Input;
 use crate::names::Names;
 use crate::output::Status;
 use crate::report;
-use opb::{kind, Assignment, Reason, Refusal, Table, Value};
+use opb::{Assignment, Kind, Reason, Refusal, Table, Value};
 use std::os::unix::process::ExitStatusExt;
 
 /// How many of the rows that fail are shown.
@@ -28,7 +28,7 @@ pub struct Plan<'a> {
 impl Plan<'_> {
     /// The objective's row, where it has terms: else the solver's file has none, and no value is claimed of it.
     fn objective(&self) -> Option<usize> {
-        (0..self.table.kinds.len()).find(|row| self.table.kinds[*row] == kind::OBJECTIVE && self.table.counts[*row] > 0)
+        (0..self.table.kinds.len()).find(|row| self.table.kind(*row) == Some(Kind::Objective) && self.table.counts[*row] > 0)
     }
 }
 
@@ -204,8 +204,8 @@ fn refused_row(plan: &Plan, refusal: &Refusal, assignment: &Assignment) -> Witho
 fn rows(plan: &Plan, assignment: &Assignment) -> Result<Rows, Without> {
     let mut found = Rows::default();
     let table = plan.table;
-    for row in (0..table.kinds.len()).filter(|row| table.kinds[*row] != kind::COMMENT) {
-        match table.evaluate_front(row, assignment).map_err(|refusal| refused_row(plan, &refusal, assignment))? {
+    for row in (0..table.kinds.len()).filter(|row| table.kind(*row) != Some(Kind::Comment)) {
+        match table.judge(row, assignment).map_err(|refusal| refused_row(plan, &refusal, assignment))? {
             Value::Objective { value, .. } => found.value = Some(value),
             Value::Constraint { sum, holds, .. } => {
                 found.constraints += 1;
@@ -234,9 +234,9 @@ fn of_failing(plan: &Plan, solver: &str, rows: &Rows) -> String {
     let failing = &rows.failing;
     let mut text = format!("{}: the answer of {} is false: constraints that fail: {} of {}", plan.input.name, solver, failing.len(), rows.constraints);
     for it in failing.iter().take(SHOWN) {
-        let (asked, by) = match plan.table.kinds[it.row] {
-            kind::AT_LEAST => ("at least", "short"),
-            kind::AT_MOST => ("at most", "over"),
+        let (asked, by) = match plan.table.kind(it.row) {
+            Some(Kind::AtLeast) => ("at least", "short"),
+            Some(Kind::AtMost) => ("at most", "over"),
             _ => ("exactly", "off"),
         };
         let place = format!("line {} (row {}, counted from 0)", it.line, it.row);

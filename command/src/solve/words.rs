@@ -93,7 +93,7 @@ pub fn lines(plan: &Plan, verdict: &Verdict, run: &Run, solver: &str, quiet: boo
     }
     text += &names;
     if verdict.judged {
-        text += &line("checked", what_stands(verdict));
+        text += &line("rows", what_stands(verdict));
     }
     text
 }

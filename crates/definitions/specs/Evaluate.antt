@@ -76,3 +76,13 @@ evaluatingRows t i ws ks = evaluatingBy (isKnown ws ks) (assigned ws) (knownOnes
 
 unfoldable pub evaluatingKnown : Table → ℕ → List ℕ → List ℕ → Outcome Evaluated
 evaluatingKnown t i ws ks = evaluatingRows t i (take wordLimit ws) (take wordLimit ks)
+
+-- ---- the same without the ones: for who judges many rows under one assignment
+
+abbrev pub withoutOnes : Outcome Evaluated → Outcome Evaluated
+withoutOnes (refused r) = refused r
+withoutOnes (accepted (constraint sum holds ones)) = accepted (constraint sum holds 0)
+withoutOnes (accepted (goal value ones)) = accepted (goal value 0)
+
+unfoldable pub judging : Table → ℕ → List ℕ → List ℕ → Outcome Evaluated
+judging t i ws ks = withoutOnes (evaluatingKnown t i ws ks)

@@ -24,7 +24,7 @@ use Rattle.evaluator.specs.declared.Evaluated.{Evaluated}
 use Rattle.evaluator.specs.declared.Evaluated.the-variants.{Refused}
 use Rattle.columns.specs.Kinds.{readKind}
 use Rattle.columns.proofs.KindNumbers.{read-kind, unread-kind, line-by-terms}
-use Rattle.evaluator.specs.Parts.{hasBy, onesBy, codesCovered, valued, foundOf, foundAt, evaluatingOf}
+use Rattle.evaluator.specs.Parts.{hasBy, codesCovered, valued, foundOf, foundAt, evaluatingOf}
 use Rattle.evaluator.proofs.Literals.{covered-on}
 
 -- a refusal, where the definition has it
@@ -52,23 +52,23 @@ module _ (k : Kind) (bound : ℤ) (ts : List Term) (a : Assignment) (sum : ℤ) 
 
 -- ---- a row's terms, in columns of one length
 
-module _ (kind : ℕ) (bound : ℤ) (ws : List ℤ) (cs : List ℕ) (all : Bool) (words known : List ℕ) (l : length ws ≡ length cs) where
-  pub terms-11 : codesIndexed cs ≡ false → foundOf kind bound (termsOn ws cs) all words known ≡ refuse 11
+module _ (kind : ℕ) (bound : ℤ) (ws : List ℤ) (cs : List ℕ) (all : Bool) (words known : List ℕ) (ones : ℕ) (l : length ws ≡ length cs) where
+  pub terms-11 : codesIndexed cs ≡ false → foundOf kind bound (termsOn ws cs) all words known ones ≡ refuse 11
   terms-11 i = rw (indexed-on ws cs l, i)
 
   module _ (i : codesIndexed cs ≡ true) where
-    pub terms-8 : weightLimit < weightSizes ws → foundOf kind bound (termsOn ws cs) all words known ≡ refuse 8
+    pub terms-8 : weightLimit < weightSizes ws → foundOf kind bound (termsOn ws cs) all words known ones ≡ refuse 8
     unfolding found
     terms-8 h = rw (indexed-on ws cs l, i, sizes-on ws cs l, lt-leb (weightSizes ws) weightLimit h)
 
     module _ (h : weightSizes ws ≤ weightLimit) where
-      pub terms-12 : codesCovered (hasBy all words known) cs ≡ false → foundOf kind bound (termsOn ws cs) all words known ≡ refuse 12
+      pub terms-12 : codesCovered (hasBy all words known) cs ≡ false → foundOf kind bound (termsOn ws cs) all words known ones ≡ refuse 12
       unfolding found
       terms-12 c = rw (indexed-on ws cs l, i, sizes-on ws cs l, le-leb (weightSizes ws) weightLimit h, covered-on (hasBy all words known) ws cs l, c)
 
       pub terms-found : codesCovered (hasBy all words known) cs ≡ true
-          → foundOf kind bound (termsOn ws cs) all words known
-          ≡ foundBy (readKind kind) (assigned words) (onesBy all words known) (rowOf (readKind kind) bound (termsOn ws cs))
+          → foundOf kind bound (termsOn ws cs) all words known ones
+          ≡ foundBy (readKind kind) (assigned words) ones (rowOf (readKind kind) bound (termsOn ws cs))
       unfolding found
       terms-found c = rw (indexed-on ws cs l, i, sizes-on ws cs l, le-leb (weightSizes ws) weightLimit h, covered-on (hasBy all words known) ws cs l, c)
 
@@ -84,28 +84,28 @@ row-found : (has : ℕ → Bool) (a : Assignment) (ones : ℕ) (b : Bool) (r : R
 row-found has a ones true r = refl
 row-found has a ones false r = refl
 
-module _ (e : Entry) (ws : List ℤ) (cs : List ℕ) (all : Bool) (words known : List ℕ) where
+module _ (e : Entry) (ws : List ℤ) (cs : List ℕ) (all : Bool) (words known : List ℕ) (ones : ℕ) where
   abbrev columns : Table
   columns = table [] [] [] [] ws cs
 
   -- a kind that is no read row's
-  pub entry-unread : (e .kind < 1) ⊎ (4 < e .kind) → foundAt e ws cs all words known ≡ refuse 11
+  pub entry-unread : (e .kind < 1) ⊎ (4 < e .kind) → foundAt e ws cs all words known ones ≡ refuse 11
   unfolding lineIn
   entry-unread (inl h) = rw (sort-low (e .kind) h)
   entry-unread (inr h) = rw (unread-kind (e .kind) columns e h)
 
   module _ (h : 1 ≤ e .kind) (g : e .kind ≤ 4) where
-    pub entry-outside : leb (e .first + e .count) (min (length ws) (length cs)) ≡ false → foundAt e ws cs all words known ≡ refuse 11
+    pub entry-outside : leb (e .first + e .count) (min (length ws) (length cs)) ≡ false → foundAt e ws cs all words known ones ≡ refuse 11
     unfolding lineIn
     entry-outside o = rw (read-kind (e .kind) (λ q. omega arith) g .sort, o)
 
     pub entry-inside : leb (e .first + e .count) (min (length ws) (length cs)) ≡ true
-        → foundAt e ws cs all words known ≡ foundOf (e .kind) (e .bound) (termsOn (weightsAt columns e) (literalsAt columns e)) all words known
+        → foundAt e ws cs all words known ones ≡ foundOf (e .kind) (e .bound) (termsOn (weightsAt columns e) (literalsAt columns e)) all words known ones
     unfolding lineIn
     entry-inside o =
         let ts = termsOn (weightsAt columns e) (literalsAt columns e) in
         rw (read-kind (e .kind) (λ q. omega arith) g .sort, o, terms-at columns e)
-        (row-found (hasBy all words known) (assigned words) (onesBy all words known) (indexed ts) (rowOf (readKind (e .kind)) (e .bound) ts))
+        (row-found (hasBy all words known) (assigned words) ones (indexed ts) (rowOf (readKind (e .kind)) (e .bound) ts))
 
 -- ---- a row of the table
 
@@ -114,12 +114,12 @@ module _ (t : Table) (i : ℕ) where
   unfolding evaluatingBy
   row-missing has a ones h = rw (entries-end t i h)
 
-  pub row-there : (all : Bool) (words known : List ℕ) → i < rowRoom t
-      → onPlace i (foundAt (entryAt t i) (t .weights) (t .literals) all words known) ≡ evaluatingOf t i all words known
+  pub row-there : (all : Bool) (words known : List ℕ) (ones : ℕ) → i < rowRoom t
+      → onPlace i (foundAt (entryAt t i) (t .weights) (t .literals) all words known ones) ≡ evaluatingOf t i all words known ones
   unfolding evaluatingBy
-  row-there all words known h =
+  row-there all words known ones h =
       rw (entries-from t i h)
-      (ap (λ (l : Checked Line). onPlace i (andThen l (foundIn (hasBy all words known) (assigned words) (onesBy all words known)))) (sym (line-by-terms t (entryAt t i))))
+      (ap (λ (l : Checked Line). onPlace i (andThen l (foundIn (hasBy all words known) (assigned words) ones))) (sym (line-by-terms t (entryAt t i))))
 
 -- ---- the words that are looked at
 

@@ -4,6 +4,7 @@ pub mod Literals
 pub mod Sums
 pub mod Counts
 pub mod Answers
+pub mod Judged
 pub mod Meant
 pub mod AllKnown
 pub mod Agree

@@ -1,4 +1,4 @@
--- `evaluate` and `evaluate_known` have one possible answer for each input: two that a contract allows are equal. They change nothing that they are lent.
+-- `evaluate`, `evaluate_known` and `judge` have one possible answer for each input: two that a contract allows are equal. They change nothing that they are lent.
 use mathlib.Core.Path.{_≡_, sym, ap, ap₂, _∙_}
 use Prim.Native.Nat.{ℕ}
 use native.Mathlib.Omega.{arith}
@@ -10,6 +10,7 @@ use Rattle.evaluator.specs.declared.Evaluated.{Evaluated}
 use Rattle.evaluator.specs.declared.Evaluated.the-variants.{Refused, Constraint, Objective}
 use Rattle.evaluator.proofs.evaluate.Reads as evaluate
 use Rattle.evaluator.proofs.evaluate_known.Reads as evaluate-known
+use Rattle.evaluator.proofs.judge.Reads as judge
 
 same-refusal : (x y : Refusal) → _≡_ {A = Outcome Found} (refused x) (refused y) → x ≡ y
 same-refusal x y e = cc
@@ -33,3 +34,6 @@ evaluate-one κs a r r' s s' p q = said-evaluated r r' (p ∙ sym q)
 
 pub evaluate-known-one : (κs : _) (a : _) (r r' : _) (s s' : _) → evaluate-known.Post κs a r s → evaluate-known.Post κs a r' s' → r ≡ r'
 evaluate-known-one κs a r r' s s' p q = said-evaluated r r' (p ∙ sym q)
+
+pub judge-one : (κs : _) (a : _) (r r' : _) (s s' : _) → judge.Post κs a r s → judge.Post κs a r' s' → r ≡ r'
+judge-one κs a r r' s s' p q = said-evaluated r r' (p ∙ sym q)

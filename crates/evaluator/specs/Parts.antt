@@ -29,7 +29,7 @@ abbrev pub onesBy : Bool → List ℕ → List ℕ → ℕ
 onesBy true ws ks = onesOf ws
 onesBy false ws ks = knownOnes ws ks
 
--- ---- the steps
+-- ---- the steps, which are told the number of ones
 
 -- not 12: every variable has a value
 abbrev pub codesCovered : (ℕ → Bool) → List ℕ → Bool
@@ -40,13 +40,13 @@ abbrev pub valued : ℤ → ℕ → Checked Evaluated
 valued value ones = cond (inI64 value) (accept (goal value ones)) (refuse 8)
 
 -- a row of a read kind with these terms, which lie in their columns
-abbrev pub foundOf : ℕ → ℤ → List Term → Bool → List ℕ → List ℕ → Checked Evaluated
-foundOf kind bound ts all ws ks = cond (indexed ts) (found (hasBy all ws ks) (assigned ws) (onesBy all ws ks) (rowOf (readKind kind) bound ts)) (refuse 11)
+abbrev pub foundOf : ℕ → ℤ → List Term → Bool → List ℕ → List ℕ → ℕ → Checked Evaluated
+foundOf kind bound ts all ws ks ones = cond (indexed ts) (found (hasBy all ws ks) (assigned ws) ones (rowOf (readKind kind) bound ts)) (refuse 11)
 
 -- an entry of a table with these two columns of terms
-abbrev pub foundAt : Entry → List ℤ → List ℕ → Bool → List ℕ → List ℕ → Checked Evaluated
-foundAt e weights literals all ws ks = andThen (lineIn (table [] [] [] [] weights literals) e) (foundIn (hasBy all ws ks) (assigned ws) (onesBy all ws ks))
+abbrev pub foundAt : Entry → List ℤ → List ℕ → Bool → List ℕ → List ℕ → ℕ → Checked Evaluated
+foundAt e weights literals all ws ks ones = andThen (lineIn (table [] [] [] [] weights literals) e) (foundIn (hasBy all ws ks) (assigned ws) ones)
 
 -- a row of a table
-abbrev pub evaluatingOf : Table → ℕ → Bool → List ℕ → List ℕ → Outcome Evaluated
-evaluatingOf t i all ws ks = evaluatingBy (hasBy all ws ks) (assigned ws) (onesBy all ws ks) t i
+abbrev pub evaluatingOf : Table → ℕ → Bool → List ℕ → List ℕ → ℕ → Outcome Evaluated
+evaluatingOf t i all ws ks ones = evaluatingBy (hasBy all ws ks) (assigned ws) ones t i

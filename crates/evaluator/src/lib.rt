@@ -1,6 +1,7 @@
 // The evaluator (01, "Normalising and evaluating"): one row of a table under an assignment lent as words, all of them known or with a second row of words that
 // says which variables are (02, A1). Each step has a function of its own, from the row's entry down to a single literal. The inner ones are lent both rows; with
-// `all` everything that the words hold is known, and the known words are not looked at. Assumes nothing.
+// `all` everything that the words hold is known, and the known words are not looked at. They are told the number of ones, which is counted before them or, where
+// a row is judged, not at all. Assumes nothing.
 use symbols::Lit;
 ghost use mathlib.Core.Path.{_≡_};
 ghost use mathlib.Core.Bool.{true};
@@ -12,7 +13,7 @@ ghost use Rattle.definitions.specs.Literal.{indexOf};
 ghost use Rattle.definitions.specs.Row.{rowOf, sizes};
 ghost use Rattle.definitions.specs.Table.{table, termsOn};
 ghost use Rattle.definitions.specs.Meaning.{isTrue, sumOf, holdsBy, assigned};
-ghost use Rattle.definitions.specs.Evaluate.{foundBy, onPlace, within, evaluating, evaluatingKnown};
+ghost use Rattle.definitions.specs.Evaluate.{foundBy, onPlace, within, evaluating, evaluatingKnown, judging};
 ghost use Rattle.evaluator.specs.Said.{saidEvaluated};
 ghost use Rattle.columns.specs.Kinds.{readKind};
 ghost use Rattle.evaluator.specs.Parts.{knownWord, hasBy, onesBy, codesCovered, valued, foundOf, foundAt, evaluatingOf};
@@ -162,17 +163,14 @@ fn answer(
     literals: &[u32],
     row: usize,
     words: &[u64],
-    known: &[u64],
-    all: bool,
+    ones: u64,
 ) -> Evaluated
     requires lengths { ⌜ length (now weights) ≡ length (now literals) ⌝ }
-    requires few { ⌜ length (now words) ≤ wordLimit ⌝ }
     requires small { ⌜ sizes (termsOn (now weights) (now literals)) ≤ weightLimit ⌝ }
     requires covers { ⌜ codesCovered (within (now words)) (now literals) ≡ true ⌝ }
-    ensures { λ r. ⌜ saidEvaluated r ≡ onPlace row (foundBy (readKind kind) (assigned (now (words .entry))) (onesBy all (now (words .entry)) (now (known .entry))) (rowOf (readKind kind) bound (termsOn (now (weights .entry)) (now (literals .entry))))) ⌝ }
+    ensures { λ r. ⌜ saidEvaluated r ≡ onPlace row (foundBy (readKind kind) (assigned (now (words .entry))) ones (rowOf (readKind kind) bound (termsOn (now (weights .entry)) (now (literals .entry))))) ⌝ }
 {
     let sum = sum_of(weights, literals, words);
-    let ones = ones_of(words, known, all);
     match kind {
         AT_LEAST | AT_MOST | EQUAL => {
             let holds = holds(kind, sum, bound);
@@ -192,10 +190,10 @@ fn evaluate_terms(
     words: &[u64],
     known: &[u64],
     all: bool,
+    ones: u64,
 ) -> Evaluated
-    requires lengths { ⌜ length (now weights) ≡ length (now literals) ⌝ }
-    requires few { ⌜ length (now words) ≤ wordLimit ⌝ }
-    ensures { λ r. ⌜ saidEvaluated r ≡ onPlace row (foundOf kind bound (termsOn (now (weights .entry)) (now (literals .entry))) all (now (words .entry)) (now (known .entry))) ⌝ }
+    requires { ⌜ length (now weights) ≡ length (now literals) ⌝ }
+    ensures { λ r. ⌜ saidEvaluated r ≡ onPlace row (foundOf kind bound (termsOn (now (weights .entry)) (now (literals .entry))) all (now (words .entry)) (now (known .entry)) ones) ⌝ }
 {
     let indexed = columns::indexed_of(literals);
     let size = columns::sizes_of(weights);
@@ -209,7 +207,7 @@ fn evaluate_terms(
     if !covers {
         return refused(12, row);
     }
-    answer(kind, bound, weights, literals, row, words, known, all)
+    answer(kind, bound, weights, literals, row, words, ones)
 }
 
 // An entry of the table. A comment, and any kind that the reader does not give, is a "row that no table may hold".
@@ -224,9 +222,9 @@ fn evaluate_entry(
     words: &[u64],
     known: &[u64],
     all: bool,
+    ones: u64,
 ) -> Evaluated
-    requires { ⌜ length (now words) ≤ wordLimit ⌝ }
-    ensures { λ r. ⌜ saidEvaluated r ≡ onPlace row (foundAt (record { kind = kind; first = first; count = count; bound = bound }) (now (weights .entry)) (now (literals .entry)) all (now (words .entry)) (now (known .entry))) ⌝ }
+    ensures { λ r. ⌜ saidEvaluated r ≡ onPlace row (foundAt (record { kind = kind; first = first; count = count; bound = bound }) (now (weights .entry)) (now (literals .entry)) all (now (words .entry)) (now (known .entry)) ones) ⌝ }
 {
     match kind {
         AT_LEAST..=OBJECTIVE => {}
@@ -246,6 +244,7 @@ fn evaluate_entry(
         words,
         known,
         all,
+        ones,
     )
 }
 
@@ -261,9 +260,9 @@ fn evaluate_row(
     words: &[u64],
     known: &[u64],
     all: bool,
+    ones: u64,
 ) -> Evaluated
-    requires { ⌜ length (now words) ≤ wordLimit ⌝ }
-    ensures { λ r. ⌜ saidEvaluated r ≡ evaluatingOf (table (now (kinds .entry)) (now (firsts .entry)) (now (counts .entry)) (now (bounds .entry)) (now (weights .entry)) (now (literals .entry))) row all (now (words .entry)) (now (known .entry)) ⌝ }
+    ensures { λ r. ⌜ saidEvaluated r ≡ evaluatingOf (table (now (kinds .entry)) (now (firsts .entry)) (now (counts .entry)) (now (bounds .entry)) (now (weights .entry)) (now (literals .entry))) row all (now (words .entry)) (now (known .entry)) ones ⌝ }
 {
     if row >= columns::row_room(kinds, firsts, counts, bounds) {
         return refused(11, row);
@@ -279,6 +278,7 @@ fn evaluate_row(
         words,
         known,
         all,
+        ones,
     )
 }
 
@@ -296,6 +296,7 @@ pub fn evaluate(
     ensures { λ r. ⌜ saidEvaluated r ≡ evaluating (table (now (kinds .entry)) (now (firsts .entry)) (now (counts .entry)) (now (bounds .entry)) (now (weights .entry)) (now (literals .entry))) row (now (words .entry)) ⌝ }
 {
     let looked = columns::lesser(words.len(), WORD_LIMIT);
+    let ones = ones_of(&words[..looked], words, true);
     evaluate_row(
         kinds,
         firsts,
@@ -307,6 +308,7 @@ pub fn evaluate(
         &words[..looked],
         words,
         true,
+        ones,
     )
 }
 
@@ -326,6 +328,7 @@ pub fn evaluate_known(
 {
     let looked = columns::lesser(values.len(), WORD_LIMIT);
     let asked = columns::lesser(known.len(), WORD_LIMIT);
+    let ones = ones_of(&values[..looked], &known[..asked], false);
     evaluate_row(
         kinds,
         firsts,
@@ -337,5 +340,37 @@ pub fn evaluate_known(
         &values[..looked],
         &known[..asked],
         false,
+        ones,
+    )
+}
+
+// The same without the ones, which are 0: the time that a row takes is that of its terms, however many words there are.
+pub fn judge(
+    kinds: &[u8],
+    firsts: &[usize],
+    counts: &[usize],
+    bounds: &[i64],
+    weights: &[i64],
+    literals: &[u32],
+    row: usize,
+    values: &[u64],
+    known: &[u64],
+) -> Evaluated
+    ensures { λ r. ⌜ saidEvaluated r ≡ judging (table (now (kinds .entry)) (now (firsts .entry)) (now (counts .entry)) (now (bounds .entry)) (now (weights .entry)) (now (literals .entry))) row (now (values .entry)) (now (known .entry)) ⌝ }
+{
+    let held = columns::lesser(values.len(), WORD_LIMIT);
+    let told = columns::lesser(known.len(), WORD_LIMIT);
+    evaluate_row(
+        kinds,
+        firsts,
+        counts,
+        bounds,
+        weights,
+        literals,
+        row,
+        &values[..held],
+        &known[..told],
+        false,
+        0,
     )
 }

@@ -285,6 +285,18 @@ fn part(
         values,
         known,
     ));
+    write(b"  judged: ");
+    show(evaluator::judge(
+        &kinds,
+        &firsts,
+        &counts,
+        &bounds,
+        weights,
+        literals,
+        0,
+        values,
+        known,
+    ));
 }
 
 // The rows of `shared` under x1 and x3 where x1 and x2 are known.
@@ -298,6 +310,18 @@ fn shared_part(name: &[u8], row: usize) {
     write(name);
     write(b": ");
     show(evaluator::evaluate_known(
+        &kinds,
+        &firsts,
+        &counts,
+        &bounds,
+        &weights,
+        &literals,
+        row,
+        &[5],
+        &[3],
+    ));
+    write(b"  judged: ");
+    show(evaluator::judge(
         &kinds,
         &firsts,
         &counts,

@@ -7,6 +7,7 @@ use Rattle.opb.proofs.reading.opb_read.Reads as opb-read
 use Rattle.opb.proofs.reading.opb_normalise.Reads as opb-normalise
 use Rattle.opb.proofs.evaluating.opb_evaluate.Reads as opb-evaluate
 use Rattle.opb.proofs.evaluating.opb_evaluate_known.Reads as opb-evaluate-known
+use Rattle.opb.proofs.evaluating.opb_judge.Reads as opb-judge
 use Rattle.opb.proofs.valuing.opb_values.Reads as opb-values
 use Rattle.opb.proofs.writing.opb_write.Reads as opb-write
 use Rattle.opb.proofs.writing.opb_list.Reads as opb-list
@@ -35,6 +36,9 @@ opb-evaluate-one κs a r r' s s' p q = p ∙ sym q
 
 pub opb-evaluate-known-one : (κs : _) (a : _) (r r' : _) (s s' : _) → opb-evaluate-known.Post κs a r s → opb-evaluate-known.Post κs a r' s' → r ≡ r'
 opb-evaluate-known-one κs a r r' s s' p q = p ∙ sym q
+
+pub opb-judge-one : (κs : _) (a : _) (r r' : _) (s s' : _) → opb-judge.Post κs a r s → opb-judge.Post κs a r' s' → r ≡ r'
+opb-judge-one κs a r r' s s' p q = p ∙ sym q
 
 -- the values and the known words
 pub opb-values-one : (κs : _) (a : _) (r r' : _) (s s' : _) → opb-values.Post κs a r s → opb-values.Post κs a r' s'

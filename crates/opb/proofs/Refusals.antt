@@ -20,7 +20,7 @@ use Rattle.definitions.specs.Table.{Table, Outcome, refused, accepted, fitted, 
 use Rattle.definitions.specs.File.{linesOf, statements, file, reading}
 use Rattle.definitions.specs.Normal.{normalLine, normalIn, normalising}
 use Rattle.definitions.specs.Meaning.{Assignment, assigned, onesOf, isKnown}
-use Rattle.definitions.specs.Evaluate.{foundBy, found, foundIn, frontBy, onPlace, evaluatingBy, within, evaluating, knownOnes, evaluatingKnown}
+use Rattle.definitions.specs.Evaluate.{foundBy, found, foundIn, frontBy, onPlace, evaluatingBy, within, evaluating, knownOnes, evaluatingKnown, withoutOnes, judging, Evaluated, constraint, goal}
 use Rattle.definitions.specs.Write.{Item, say, line, itemText, itemBy, itemIn, rowAllowed, allowed, writtenIn, fittedText, textOf, writing}
 use Rattle.definitions.specs.House.{listing, listedLine, listedEntry, listedIn, listingTable}
 use Rattle.definitions.specs.Values as values
@@ -387,6 +387,16 @@ evaluating-known-in t i ws ks =
     let w = take wordLimit ws in
     let k = take wordLimit ks in
     evaluating-by-in (isKnown w k) (assigned w) (knownOnes w k) t i
+
+without-ones-in : (o : Outcome Evaluated) → inOutcome (withoutOnes o) ≡ inOutcome o
+unfolding inOutcome
+without-ones-in (refused r) = refl
+without-ones-in (accepted (constraint sum h ones)) = refl
+without-ones-in (accepted (goal value ones)) = refl
+
+pub judging-in : (t : Table) (i : ℕ) (ws ks : List ℕ) → inOutcome (judging t i ws ks) ≡ true
+unfolding judging
+judging-in t i ws ks = without-ones-in (evaluatingKnown t i ws ks) ∙ evaluating-known-in t i ws ks
 
 -- ---- value lines
 

@@ -10,17 +10,17 @@ use Rattle.definitions.specs.Row.{Line}
 use Rattle.definitions.specs.Table.{Table, Outcome, refused, accepted, counted}
 use Rattle.definitions.specs.File.{firstAt, file, reading}
 use Rattle.definitions.specs.Normal.{normalising}
-use Rattle.definitions.specs.Evaluate.{Evaluated, constraint, goal, evaluating, evaluatingKnown}
+use Rattle.definitions.specs.Evaluate.{Evaluated, constraint, goal, evaluating, evaluatingKnown, judging}
 use Rattle.definitions.specs.Write.{writing}
 use Rattle.definitions.specs.House.{listingTable}
 use Rattle.definitions.specs.Values.{valuing, newLength}
 use Rattle.opb.specs.Answers.{tableAnswer, textAnswer, keptAnswer, valueAnswer}
 use Rattle.opb.specs.Accepts.{Accepted, Tells}
-use Rattle.opb.specs.Calls.{modeAt, countAnswer, ReadsFile, NormalisesTable, evaluateAnswer, evaluateKnownAnswer, ReadsBlock, WritesLines, ListsTable}
+use Rattle.opb.specs.Calls.{modeAt, countAnswer, ReadsFile, NormalisesTable, evaluateAnswer, evaluateKnownAnswer, judgeAnswer, ReadsBlock, WritesLines, ListsTable}
 use Rattle.opb.specs.declared.answers.OpbTable.{OpbTable}
 use Rattle.opb.specs.declared.answers.OpbText.{OpbText}
 use Rattle.opb.specs.declared.answers.OpbLength.{OpbLength}
-use Rattle.opb.proofs.Refusals.{inOutcome, file-in, reading-in, normalising-in, evaluating-in, evaluating-known-in, valuing-in, writing-in, listing-in}
+use Rattle.opb.proofs.Refusals.{inOutcome, file-in, reading-in, normalising-in, evaluating-in, evaluating-known-in, judging-in, valuing-in, writing-in, listing-in}
 
 -- ---- what an answer's number tells of the outcome
 
@@ -70,6 +70,9 @@ evaluate-tells t row words = value-tells (evaluating t row words) (evaluating-in
 
 pub evaluate-known-tells : (t : Table) (row : ℕ) (values known : List ℕ) → Tells (evaluateKnownAnswer t row values known .refusal) (evaluatingKnown t row values known)
 evaluate-known-tells t row values known = value-tells (evaluatingKnown t row values known) (evaluating-known-in t row values known)
+
+pub judge-tells : (t : Table) (row : ℕ) (values known : List ℕ) → Tells (judgeAnswer t row values known .refusal) (judging t row values known)
+judge-tells t row values known = value-tells (judging t row values known) (judging-in t row values known)
 
 pub values-tells : (s : List ℕ) (n : ℕ) (ws ks : List ℕ) (r : OpbLength) (ws′ ks′ : List ℕ) → ReadsBlock s n ws ks r ws′ ks′ → Tells (r .refusal) (valuing s n ws ks)
 values-tells s n ws ks r ws′ ks′ c = rw (c .answer) (kept-tells n (valuing s n ws ks) (valuing-in s n ws ks))

@@ -8,7 +8,7 @@ use lib.ListN.{length}
 use Rattle.definitions.specs.Table.{Table, counted, after}
 use Rattle.definitions.specs.File.{firstAt, file, reading}
 use Rattle.definitions.specs.Normal.{normalising}
-use Rattle.definitions.specs.Evaluate.{evaluating, evaluatingKnown}
+use Rattle.definitions.specs.Evaluate.{evaluating, evaluatingKnown, judging}
 use Rattle.definitions.specs.Write.{writing, outputAfter}
 use Rattle.definitions.specs.House.{listingTable}
 use Rattle.definitions.specs.Values.{valuing, newLength, valuesAfter, knownAfter}
@@ -48,6 +48,10 @@ evaluateAnswer t row words = valueAnswer (evaluating t row words)
 -- the same where a second row of words says which variables are known
 abbrev pub evaluateKnownAnswer : Table → ℕ → List ℕ → List ℕ → OpbValue
 evaluateKnownAnswer t row values known = valueAnswer (evaluatingKnown t row values known)
+
+-- and the same without the ones
+abbrev pub judgeAnswer : Table → ℕ → List ℕ → List ℕ → OpbValue
+judgeAnswer t row values known = valueAnswer (judging t row values known)
 
 -- the block s of value lines on top of the length n, the values ws and the known words ks, which are ws′ and ks′ after the call
 pub record ReadsBlock (s : List ℕ) (n : ℕ) (ws ks : List ℕ) (r : OpbLength) (ws′ ks′ : List ℕ) : Type 0 where

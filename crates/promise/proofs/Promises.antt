@@ -25,6 +25,7 @@ use Rattle.normaliser.specs.Normalises.{Normalises}
 use Rattle.normaliser.proofs.normalise.Reads as normalise
 use Rattle.evaluator.proofs.evaluate.Reads as evaluate
 use Rattle.evaluator.proofs.evaluate_known.Reads as evaluate-known
+use Rattle.evaluator.proofs.judge.Reads as judge
 use Rattle.evaluator.proofs.Meant.{looked}
 use Rattle.values.specs.Reads.{ReadsValues}
 use Rattle.values.proofs.read_values.Reads as read-values
@@ -53,6 +54,11 @@ evaluating-as-defined κs a r s p = p
 pub evaluating-known-as-defined : (κs : _) (a : _) (r : _) (s : _) → evaluate-known.Post κs a r s
     → Rattle.evaluator.specs.Said.saidEvaluated r ≡ Rattle.definitions.specs.Evaluate.evaluatingKnown (columns a) (a .1 .1 .1 .1 .1 .1 .0) (now (a .1 .1 .1 .1 .1 .1 .1 .0)) (now (a .1 .1 .1 .1 .1 .1 .1 .1 .0))
 evaluating-known-as-defined κs a r s p = p
+
+-- A row that is judged has the sum and truth, or the value, that `evaluatingKnown` says; only the ones are left out.
+pub judging-as-defined : (κs : _) (a : _) (r : _) (s : _) → judge.Post κs a r s
+    → Rattle.evaluator.specs.Said.saidEvaluated r ≡ Rattle.definitions.specs.Evaluate.judging (columns a) (a .1 .1 .1 .1 .1 .1 .0) (now (a .1 .1 .1 .1 .1 .1 .1 .0)) (now (a .1 .1 .1 .1 .1 .1 .1 .1 .0))
+judging-as-defined κs a r s p = p
 
 -- Value lines: the new length and both rows afterwards are those of `valuing`. A refused block changes no bit.
 pub valuing-as-defined : (κs : _) (a : _) (r : _) (s : _) → read-values.Post κs a r s

@@ -44,7 +44,7 @@ returns c =
     let s = c .before .before .before .before .before in
     let a = s .args in
     refused-is 11 _ _ _ (c .refused .ensures)
-    (entry-unread (entry s) (now (a .weights)) (now (a .literals)) (a .all) (now (a .words)) (now (a .known)) (⊎-elim (λ w. inl (omega arith)) (λ w. inr (omega arith)) (c .before .if1 .came)))
+    (entry-unread (entry s) (now (a .weights)) (now (a .literals)) (a .all) (now (a .words)) (now (a .known)) (a .ones) (⊎-elim (λ w. inl (omega arith)) (λ w. inr (omega arith)) (c .before .if1 .came)))
 
 term-room-requires : tie.Need-term-room-requires
 term-room-requires c κs = search needs
@@ -61,7 +61,7 @@ returns-2 c =
     let s = start k in
     let a = s .args in
     refused-is 11 _ _ _ (c .refused2 .ensures)
-    (entry-outside (entry s) (now (a .weights)) (now (a .literals)) (a .all) (now (a .words)) (now (a .known)) (omega arith) (omega arith) (sym (tested k) ∙ not-true _ (c .before .if3 .taken)))
+    (entry-outside (entry s) (now (a .weights)) (now (a .literals)) (a .all) (now (a .words)) (now (a .known)) (a .ones) (omega arith) (omega arith) (sym (tested k) ∙ not-true _ (c .before .if3 .taken)))
 
 add-end : tie.Need-add-end
 add-end c = omega (arith, ends c, start (c .before) .good)
@@ -98,7 +98,7 @@ returns-3 c =
     let d = c .before .before .before in
     let s = start (d .before) in
     let n : s .args .first + s .args .count - s .args .first ≡ s .args .count = omega arith in
-    rw (entry-inside (entry s) (now (s .args .weights)) (now (s .args .literals)) (s .args .all) (now (s .args .words)) (now (s .args .known)) (omega arith) (omega arith) (within d))
+    rw (entry-inside (entry s) (now (s .args .weights)) (now (s .args .literals)) (s .args .all) (now (s .args .words)) (now (s .args .known)) (s .args .ones) (omega arith) (omega arith) (within d))
     (rw (toZ-ofZ (s .fits .bound), n) at (c .evaluate-terms .ensures))
 
 pub evaluate-entry-spec : {M : Type 1} → statement M

@@ -9,7 +9,7 @@ use mir.Val.{SFits}
 use mir.Facts.{toZ-ofZ}
 use Rattle.definitions.specs.Table.{Table, table}
 use Rattle.definitions.specs.Meaning.{assigned}
-use Rattle.evaluator.specs.Parts.{hasBy, onesBy}
+use Rattle.evaluator.specs.Parts.{hasBy}
 use Rattle.evaluator.proofs.Answers.{row-missing, row-there}
 use Rattle.evaluator.proofs.evaluate_row.Statement.{statement}
 use Rattle.evaluator.proofs.evaluate_row.Tie as tie
@@ -31,7 +31,7 @@ returns c =
     let a = s .args in
     let ws = now (a .words) in
     let ks = now (a .known) in
-    rw (c .refused .ensures, row-missing (lent s) (a .row) (hasBy (a .all) ws ks) (assigned ws) (onesBy (a .all) ws ks) (omega (arith, k .row-room .ensures)))
+    rw (c .refused .ensures, row-missing (lent s) (a .row) (hasBy (a .all) ws ks) (assigned ws) (a .ones) (omega (arith, k .row-room .ensures)))
 
 shared-slice-read-evaluate-entry : tie.Need-shared-slice-read-evaluate-entry
 shared-slice-read-evaluate-entry c = search needs
@@ -63,7 +63,7 @@ returns-2 c =
     let s = k .before .before .before .before .before .before .before in
     let a = s .args in
     let f : SFits w64 (getD (now (a .bounds)) (a .row) (pos 0)) = record { sfits = c .before .evaluate-entry-arg .given } in
-    rw (← row-there (lent s) (a .row) (a .all) (now (a .words)) (now (a .known)) (omega (arith, k .row-room .ensures)))
+    rw (← row-there (lent s) (a .row) (a .all) (now (a .words)) (now (a .known)) (a .ones) (omega (arith, k .row-room .ensures)))
     (simp (toZ-ofZ f) at (c .evaluate-entry .ensures))
 
 pub evaluate-row-spec : {M : Type 1} → statement M
