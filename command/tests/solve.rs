@@ -110,7 +110,7 @@ fn variables_have_the_plans_own_numbers() {
         [("0", PLAN.replace("x1", "x0").replace("x2", "x1").replace("x3", "x2").replace("x4", "x3")), ("7", PLAN.replace("x4", "x10").replace("x3", "x9").replace("x2", "x8").replace("x1 ", "x7 "))]
     {
         let done = solve(&format!("first-{}", first), &moved, &printing(BEST), &["--first", first]);
-        let last = format!("\nheld(satyr,atrium,1)\nx{}\nchecked", first.parse::<u32>().unwrap() + 3);
+        let last = format!("\nheld(satyr,atrium,1)\nx{}\nrows ", first.parse::<u32>().unwrap() + 3);
         assert!(done.status == 0 && done.out.contains(&last), "{}{}", done.out, done.err);
     }
     let plan = "1 x7 1 x9 >= 1;\n";
@@ -282,7 +282,7 @@ fn variables_on_which_no_constraint_depends_may_be_open() {
     let plan = "min: 1 x1 -4 x2 3 x3;\n1 x1 2 x2 -2 x2 0 x3 >= 1;\n";
     let open = |name: &str, lines: &str| solve(name, plan, &format!("cat <<'END'\ns OPTIMUM FOUND\n{}END\n", lines), &[]);
     let done = open("open-weight", "o -3\nv x1\n");
-    assert!(done.status == 0 && done.out.contains("value   -3 ") && done.out.contains("\nx1\nx2\nchecked"), "{}{}", done.out, done.err);
+    assert!(done.status == 0 && done.out.contains("value   -3 ") && done.out.contains("\nx1\nx2\nrows "), "{}{}", done.out, done.err);
     assert!(done.err.contains("variables on which no constraint depends, without a value in the answer: 2. They take the value that their weight in the objective asks for"), "{}", done.err);
     let done = open("open-false", "o 1\nv x1\n");
     assert!(done.status == 0 && done.out.contains("value   1 ") && done.err.contains("are false, as the solver counts them"), "{}{}", done.out, done.err);
