@@ -7,7 +7,7 @@ use Rattle.opb.proofs.reading.opb_read.Reads as opb-read
 use Rattle.opb.proofs.reading.opb_normalise.Reads as opb-normalise
 use Rattle.opb.proofs.evaluating.opb_evaluate.Reads as opb-evaluate
 use Rattle.opb.proofs.evaluating.opb_evaluate_known.Reads as opb-evaluate-known
-use Rattle.opb.proofs.evaluating.opb_judge.Reads as opb-judge
+use Rattle.opb.proofs.judging.opb_judge.Reads as opb-judge
 use Rattle.opb.proofs.valuing.opb_values.Reads as opb-values
 use Rattle.opb.proofs.writing.opb_write.Reads as opb-write
 use Rattle.opb.proofs.writing.opb_list.Reads as opb-list

@@ -5,7 +5,7 @@ ghost use mathlib.Core.Path.{_≡_};
 ghost use Rattle.definitions.specs.Table.{table};
 ghost use Rattle.evaluator.specs.Said.{saidEvaluated};
 ghost use Rattle.opb.specs.Answers.{truth, valueAnswer};
-ghost use Rattle.opb.specs.Calls.{evaluateAnswer, evaluateKnownAnswer, judgeAnswer};
+ghost use Rattle.opb.specs.Calls.{evaluateAnswer, evaluateKnownAnswer};
 
 // A bool as C has it.
 fn one_if(holds: bool) -> u8
@@ -15,7 +15,7 @@ fn one_if(holds: bool) -> u8
 }
 
 // An objective is told from a constraint by `holds`.
-fn value_of(found: Evaluated) -> OpbValue
+pub(crate) fn value_of(found: Evaluated) -> OpbValue
     ensures { λ r. ⌜ r ≡ valueAnswer (saidEvaluated found) ⌝ }
 {
     match found {
@@ -76,34 +76,6 @@ pub extern "C" fn opb_evaluate_known(
     ensures { λ r. ⌜ r ≡ evaluateKnownAnswer (table (now (kinds .entry)) (now (firsts .entry)) (now (counts .entry)) (now (bounds .entry)) (now (weights .entry)) (now (literals .entry))) row (now (values .entry)) (now (known .entry)) ⌝ }
 {
     value_of(evaluator::evaluate_known(
-        kinds,
-        firsts,
-        counts,
-        bounds,
-        weights,
-        literals,
-        row,
-        values,
-        known,
-    ))
-}
-
-// The same without the ones: for who judges many rows under one assignment, since the time that it takes is that of the row's terms.
-#[no_mangle]
-pub extern "C" fn opb_judge(
-    kinds: &[u8],
-    firsts: &[usize],
-    counts: &[usize],
-    bounds: &[i64],
-    weights: &[i64],
-    literals: &[u32],
-    row: usize,
-    values: &[u64],
-    known: &[u64],
-) -> OpbValue
-    ensures { λ r. ⌜ r ≡ judgeAnswer (table (now (kinds .entry)) (now (firsts .entry)) (now (counts .entry)) (now (bounds .entry)) (now (weights .entry)) (now (literals .entry))) row (now (values .entry)) (now (known .entry)) ⌝ }
-{
-    value_of(evaluator::judge(
         kinds,
         firsts,
         counts,

@@ -3,6 +3,7 @@
 // each promises. Assumes nothing.
 mod answers;
 mod evaluating;
+mod judging;
 mod reading;
 mod valuing;
 mod writing;
@@ -13,7 +14,7 @@ pub use answers::OpbText;
 pub use answers::OpbValue;
 pub use evaluating::opb_evaluate;
 pub use evaluating::opb_evaluate_known;
-pub use evaluating::opb_judge;
+pub use judging::opb_judge;
 pub use reading::opb_count;
 pub use reading::opb_normalise;
 pub use reading::opb_read;

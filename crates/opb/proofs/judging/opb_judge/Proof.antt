@@ -2,8 +2,8 @@
 use mathlib.Core.Path.{ap, _∙_}
 use Rattle.opb.specs.Answers.{valueAnswer}
 use borrow.Author.Needs.{needs}
-use Rattle.opb.proofs.evaluating.opb_judge.Statement.{statement}
-use Rattle.opb.proofs.evaluating.opb_judge.Tie as tie
+use Rattle.opb.proofs.judging.opb_judge.Statement.{statement}
+use Rattle.opb.proofs.judging.opb_judge.Tie as tie
 
 judge-requires : tie.Need-judge-requires
 judge-requires c κs = search needs
