@@ -1,5 +1,5 @@
 #!/usr/bin/env python3
-"""Writes the page of files and house lines that run-ci holds the listing programs to, by the model of tests/vectors/reader_stdout.py, which is written from 01 alone.
+"""Writes the page of files and house lines that run-ci holds the listing programs to, by the model of tests/vectors/reader_model.py, which is written from 01 alone.
 
   make-page.py > page
   make-page.py FILE > hall.lines     the lines of a file alone
@@ -10,7 +10,7 @@ import os
 import sys
 
 sys.path.insert(0, os.path.join(os.path.dirname(os.path.abspath(__file__)), "..", "vectors"))
-from reader_stdout import CASES, COMMENT, escaped, read
+from reader_model import CASES, COMMENT, read
 
 WORDS = "c", "ge", "le", "eq", "min"
 
@@ -39,6 +39,10 @@ def listing(data, first=1):
         lines.append("\t".join(map(str, [WORDS[kind]] + fields)))
     return "\n".join(lines) + "\n"
 
+
+def escaped(data):
+    short = {10: "\\n", 13: "\\r", 9: "\\t", 92: "\\x5c"}
+    return "".join(short.get(b) or (chr(b) if 32 <= b < 127 else "\\x%02x" % b) for b in data)
 
 
 def page():

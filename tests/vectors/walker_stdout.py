@@ -1,10 +1,10 @@
 #!/usr/bin/env python3
 """What crates/walker_run must write: files walked "by a reader that holds the file's bytes and hands out one statement per call, with the same answers" (01), by the model of 01's text rules of
-reader_stdout.py, which knows nothing of the code.
+reader_model.py, which knows nothing of the code.
 
   tests/vectors/walker_stdout.py > crates/walker_run/stdout
 """
-from reader_stdout import BLANKS, Refused, Text, statement
+from reader_model import BLANKS, Refused, Text, statement
 
 FIRST = 1
 ROOM = 2

@@ -1,4 +1,5 @@
--- The numbers in the column of kinds: which kind each is, that `readKind` is the definition's `sortOf` where a row is a read row's, and that any other row is 11.
+-- The numbers in the column of kinds: which kind each is, that `readKind` is the definition's `sortOf` where a row is a read row's,
+-- and that any other row is 11.
 use Prim.Native.Nat.{ℕ, zero, suc, _≤_, _<_}
 use mathlib.Core.Path.{_≡_, refl, ap}
 use mathlib.Core.Bool.{Bool, true, false, cond}
@@ -9,7 +10,8 @@ use borrow.Author.Tests.{ne-eqb}
 use lib.Dec.{eqb}
 use Rattle.definitions.specs.Refusal.{refuse}
 use Rattle.definitions.specs.Row.{atLeast, atMost, equal, objective}
-use Rattle.definitions.specs.Table.{Table, table, Entry, kindNumber, Sort, remark, clause, unknown, weighted, cardinality, sortOf, lineBy, lineIn}
+use Rattle.definitions.specs.Table.{Table, table, kindNumber, Sort, remark, clause, unknown, weighted, cardinality, sortOf, lineBy, lineIn}
+use Rattle.definitions.specs.declared.Entry.{Entry}
 use Rattle.columns.specs.Kinds.{readKind}
 
 -- ---- the kind of a number
@@ -64,10 +66,18 @@ read-kind (suc (suc (suc (suc (suc n))))) h g = absurd (omega arith)
 pub unread-kind : (n : ℕ) (t : Table) (e : Entry) → 4 < n → lineBy (sortOf n) t e ≡ refuse 11
 unfolding sortOf
 unread-kind n t e h =
-    rw (ne-eqb n 0 (λ q. omega arith), ne-eqb n 1 (λ q. omega arith), ne-eqb n 2 (λ q. omega arith), ne-eqb n 3 (λ q. omega arith), ne-eqb n 4 (λ q. omega arith))
+    rw (
+      ne-eqb n 0 (λ q. omega arith),
+      ne-eqb n 1 (λ q. omega arith),
+      ne-eqb n 2 (λ q. omega arith),
+      ne-eqb n 3 (λ q. omega arith),
+      ne-eqb n 4 (λ q. omega arith),
+    )
     (by (eqb n 5) (eqb n 6) (eqb n 7) (eqb n 8))
   where
-    by : (p q r s : Bool) → lineBy (cond p clause (cond q (cardinality atLeast) (cond r (cardinality atMost) (cond s (cardinality equal) unknown)))) t e ≡ refuse 11
+    by : (p q r s : Bool)
+        → lineBy (cond p clause (cond q (cardinality atLeast) (cond r (cardinality atMost) (cond s (cardinality equal) unknown)))) t e
+        ≡ refuse 11
     by true q r s = refl
     by false true r s = refl
     by false false true s = refl

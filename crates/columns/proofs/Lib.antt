@@ -4,3 +4,4 @@ pub mod Sums
 pub mod Terms
 pub mod OneAnswer
 pub mod KindNumbers
+pub mod Entries

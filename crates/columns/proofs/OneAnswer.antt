@@ -4,6 +4,8 @@ use Rattle.columns.proofs.lesser.Reads as lesser
 use Rattle.columns.proofs.row_room.Reads as row-room
 use Rattle.columns.proofs.term_room.Reads as term-room
 use Rattle.columns.proofs.in_column.Reads as in-column
+use Rattle.columns.proofs.terms_of.Reads as terms-of
+use Rattle.columns.proofs.first_of.Reads as first-of
 use Rattle.columns.proofs.indexed_of.Reads as indexed-of
 use Rattle.columns.proofs.add_size.Reads as add-size
 use Rattle.columns.proofs.sizes_of.Reads as sizes-of
@@ -20,6 +22,12 @@ term-room-one κs a r r' s s' p q = p ∙ sym q
 
 pub in-column-one : (κs : _) (a : _) (r r' : _) (s s' : _) → in-column.Post κs a r s → in-column.Post κs a r' s' → r ≡ r'
 in-column-one κs a r r' s s' p q = p ∙ sym q
+
+pub terms-of-one : (κs : _) (a : _) (r r' : _) (s s' : _) → terms-of.Post κs a r s → terms-of.Post κs a r' s' → r ≡ r'
+terms-of-one κs a r r' s s' p q = p ∙ sym q
+
+pub first-of-one : (κs : _) (a : _) (r r' : _) (s s' : _) → first-of.Post κs a r s → first-of.Post κs a r' s' → r ≡ r'
+first-of-one κs a r r' s s' p q = p ∙ sym q
 
 pub indexed-of-one : (κs : _) (a : _) (r r' : _) (s s' : _) → indexed-of.Post κs a r s → indexed-of.Post κs a r' s' → r ≡ r'
 indexed-of-one κs a r r' s s' p q = p ∙ sym q

@@ -18,7 +18,8 @@ pub record Summed (ws : List ℤ) (i size : ℕ) : Type 0 where
 pub summed-none : (ws : List ℤ) → Summed ws 0 0
 summed-none ws = record { under = omega arith; left = omega arith }
 
-pub summed-more : (ws : List ℤ) (i size : ℕ) → Summed ws i size → i < length ws → Summed ws (i + 1) (capped (size + natAbs (getD ws i (pos 0))))
+pub summed-more : (ws : List ℤ) (i size : ℕ) → Summed ws i size → i < length ws
+    → Summed ws (i + 1) (capped (size + natAbs (getD ws i (pos 0))))
 summed-more ws i size s h =
     let e : weightSizes (drop i ws) ≡ natAbs (getD ws i (pos 0)) + weightSizes (drop (i + 1) ws) = step in
     record { under = omega arith; left = omega (arith, s .left) }

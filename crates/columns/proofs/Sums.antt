@@ -9,7 +9,8 @@ use lib.Signed.{ltZ, leZ}
 use mir.Syntax.{w64}
 use mir.Val.{SFits}
 use Rattle.definitions.specs.Limits.{least, greatest, inI64}
-use Rattle.definitions.proofs.Whole.{up, dn, one-side, up-pos, dn-pos, up-negsuc, dn-negsuc, sum-is, diff-is, lt-is, ge-is, is-le, is-gt, in-up, in-dn, is-in, in-true, over-up, over-dn}
+use Rattle.definitions.proofs.Whole.{up, dn, one-side, up-pos, dn-pos, up-negsuc, dn-negsuc, sum-is, diff-is, lt-is, ge-is, is-le}
+use Rattle.definitions.proofs.Whole.{is-gt, in-up, in-dn, is-in, in-true, over-up, over-dn}
 
 up-least : up least ≡ 0
 up-least = up-negsuc 9_223_372_036_854_775_807
@@ -29,7 +30,18 @@ module _ (x y : ℤ) (f : SFits w64 x) (g : SFits w64 y) where
     pub low-in : SFits w64 (least -ℤ y)
     low-in =
         let h : (up (least -ℤ y) < 2 ^ 63) × (dn (least -ℤ y) ≤ 2 ^ 63) =
-        omega (arith, diff-is least y, one-side (least -ℤ y), one-side y, lt-is y (pos 0) t, in-dn y g, up-pos 0, dn-pos 0, up-least, dn-least) in
+        omega (
+          arith,
+          diff-is least y,
+          one-side (least -ℤ y),
+          one-side y,
+          lt-is y (pos 0) t,
+          in-dn y g,
+          up-pos 0,
+          dn-pos 0,
+          up-least,
+          dn-least,
+        ) in
         is-in (least -ℤ y) (h .0) (h .1)
 
     pub low-test : leZ (least -ℤ y) x ≡ inI64 (x +ℤ y)
@@ -42,14 +54,26 @@ module _ (x y : ℤ) (f : SFits w64 x) (g : SFits w64 y) where
             (is-in (x +ℤ y)
             (omega (arith, one-side (x +ℤ y), one-side y, in-up x f, lt-is y (pos 0) t, sum-is x y, up-pos 0, dn-pos 0))
             (omega (arith, one-side (x +ℤ y), diff-is least y, sum-is x y, up-least, dn-least))))
-        cases (no h) = is-gt (least -ℤ y) x (omega arith) ∙ sym (over-dn (x +ℤ y) (omega (arith, diff-is least y, sum-is x y, up-least, dn-least)))
+        cases (no h) =
+            is-gt (least -ℤ y) x (omega arith) ∙ sym (over-dn (x +ℤ y) (omega (arith, diff-is least y, sum-is x y, up-least, dn-least)))
 
   -- the greatest number less y, of a y from 0 up
   module _ (t : ltZ y (pos 0) ≡ false) where
     pub high-in : SFits w64 (greatest -ℤ y)
     high-in =
         let h : (up (greatest -ℤ y) < 2 ^ 63) × (dn (greatest -ℤ y) ≤ 2 ^ 63) =
-        omega (arith, diff-is greatest y, one-side (greatest -ℤ y), one-side y, ge-is y (pos 0) t, in-up y g, up-pos 0, dn-pos 0, up-greatest, dn-greatest) in
+        omega (
+          arith,
+          diff-is greatest y,
+          one-side (greatest -ℤ y),
+          one-side y,
+          ge-is y (pos 0) t,
+          in-up y g,
+          up-pos 0,
+          dn-pos 0,
+          up-greatest,
+          dn-greatest,
+        ) in
         is-in (greatest -ℤ y) (h .0) (h .1)
 
     pub high-test : leZ x (greatest -ℤ y) ≡ inI64 (x +ℤ y)
@@ -63,4 +87,5 @@ module _ (x y : ℤ) (f : SFits w64 x) (g : SFits w64 y) where
             (omega (arith, one-side (x +ℤ y), diff-is greatest y, sum-is x y, up-greatest, dn-greatest))
             (omega (arith, one-side (x +ℤ y), one-side y, in-dn x f, ge-is y (pos 0) t, sum-is x y, up-pos 0, dn-pos 0))))
         cases (no h) =
-            is-gt x (greatest -ℤ y) (omega arith) ∙ sym (over-up (x +ℤ y) (omega (arith, diff-is greatest y, sum-is x y, up-greatest, dn-greatest)))
+            is-gt x (greatest -ℤ y) (omega arith)
+            ∙ sym (over-up (x +ℤ y) (omega (arith, diff-is greatest y, sum-is x y, up-greatest, dn-greatest)))

@@ -11,16 +11,23 @@ use lib.Seq.{drop-cons}
 use lib.IntN.{ℤ, pos}
 use Rattle.definitions.specs.Row.{Term, term, weightOf, literalOf, sizes}
 use Rattle.definitions.specs.Literal.{indexOf, isIndex}
-use Rattle.definitions.specs.Table.{Table, rowRoom, termRoom, Entry, entriesOf, entries, termsOn, termsAt, inColumn, indexed}
+use Rattle.definitions.specs.Table.{Table, rowRoom, termRoom, entriesOf, entries, termsOn, termsAt, inColumn, indexed}
+use Rattle.definitions.specs.declared.Entry.{Entry}
 use Rattle.columns.specs.Parts.{every, codesIndexed, weightSizes}
 
 -- ---- entries
 
 -- what the four columns hold at i
 abbrev pub entryAt : Table → ℕ → Entry
-entryAt t i = record { kind = getD (t .kinds) i 0; first = getD (t .firsts) i 0; count = getD (t .counts) i 0; bound = getD (t .bounds) i (pos 0) }
+entryAt t i = record {
+  kind = getD (t .kinds) i 0;
+  first = getD (t .firsts) i 0;
+  count = getD (t .counts) i 0;
+  bound = getD (t .bounds) i (pos 0);
+}
 
-entries-of-count : (ks fs ns : List ℕ) (bs : List ℤ) → length (entriesOf ks fs ns bs) ≡ min (length ks) (min (length fs) (min (length ns) (length bs)))
+entries-of-count : (ks fs ns : List ℕ) (bs : List ℤ)
+    → length (entriesOf ks fs ns bs) ≡ min (length ks) (min (length fs) (min (length ns) (length bs)))
 unfolding entriesOf
 entries-of-count [] fs ns bs = omega arith
 entries-of-count (k ∷ ks) [] ns bs = omega arith
@@ -29,14 +36,20 @@ entries-of-count (k ∷ ks) (f ∷ fs) (n ∷ ns) [] = omega arith
 entries-of-count (k ∷ ks) (f ∷ fs) (n ∷ ns) (b ∷ bs) = omega (arith, entries-of-count ks fs ns bs)
 
 entries-of-from : (ks fs ns : List ℕ) (bs : List ℤ) (i : ℕ) → i < length ks → i < length fs → i < length ns → i < length bs
-    → drop i (entriesOf ks fs ns bs) ≡ record { kind = getD ks i 0; first = getD fs i 0; count = getD ns i 0; bound = getD bs i (pos 0) } ∷ drop (suc i) (entriesOf ks fs ns bs)
+    → drop i (entriesOf ks fs ns bs) ≡ record {
+      kind = getD ks i 0;
+      first = getD fs i 0;
+      count = getD ns i 0;
+      bound = getD bs i (pos 0);
+    } ∷ drop (suc i) (entriesOf ks fs ns bs)
 unfolding entriesOf
 entries-of-from [] fs ns bs i hk hf hn hb = absurd (omega arith)
 entries-of-from (k ∷ ks) [] ns bs i hk hf hn hb = absurd (omega arith)
 entries-of-from (k ∷ ks) (f ∷ fs) [] bs i hk hf hn hb = absurd (omega arith)
 entries-of-from (k ∷ ks) (f ∷ fs) (n ∷ ns) [] i hk hf hn hb = absurd (omega arith)
 entries-of-from (k ∷ ks) (f ∷ fs) (n ∷ ns) (b ∷ bs) zero hk hf hn hb = refl
-entries-of-from (k ∷ ks) (f ∷ fs) (n ∷ ns) (b ∷ bs) (suc i) hk hf hn hb = entries-of-from ks fs ns bs i (omega arith) (omega arith) (omega arith) (omega arith)
+entries-of-from (k ∷ ks) (f ∷ fs) (n ∷ ns) (b ∷ bs) (suc i) hk hf hn hb =
+    entries-of-from ks fs ns bs i (omega arith) (omega arith) (omega arith) (omega arith)
 
 module _ (t : Table) where
   pub entries-count : length (entries t) ≡ rowRoom t
@@ -83,7 +96,8 @@ unfolding termsOn
 terms-from ws cs i h g = rw (drop-cons ws i (pos 0) h, drop-cons cs i 0 g, add-one)
 
 pub terms-end : (ws : List ℤ) (cs : List ℕ) (i : ℕ) → min (length ws) (length cs) ≤ i → termsOn (drop i ws) (drop i cs) ≡ []
-terms-end ws cs i h = let g : length (termsOn ws cs) ≤ i = omega (arith, terms-count ws cs) in rw (← terms-drop i ws cs) (drop-of-length-le (termsOn ws cs) g)
+terms-end ws cs i h =
+    let g : length (termsOn ws cs) ≤ i = omega (arith, terms-count ws cs) in rw (← terms-drop i ws cs) (drop-of-length-le (termsOn ws cs) g)
 
 terms-suc : (ws : List ℤ) (cs : List ℕ) (i : ℕ) → i < length ws → i < length cs
     → termsOn (take (suc i) ws) (take (suc i) cs) ≡ termsOn (take i ws) (take i cs) ++ (term (getD ws i (pos 0)) (getD cs i 0) ∷ [])
@@ -108,7 +122,9 @@ literalsAt t e = take (e .count) (drop (e .first) (t .literals))
 
 module _ (t : Table) (e : Entry) where
   pub terms-at : termsAt t e ≡ termsOn (weightsAt t e) (literalsAt t e)
-  terms-at = rw (terms-drop (e .first) (t .weights) (t .literals)) (terms-take (e .count) (drop (e .first) (t .weights)) (drop (e .first) (t .literals)))
+  terms-at =
+      rw (terms-drop (e .first) (t .weights) (t .literals))
+      (terms-take (e .count) (drop (e .first) (t .weights)) (drop (e .first) (t .literals)))
 
   -- in its column, as many as it counts
   module _ (h : inColumn t e ≡ true) where
@@ -153,13 +169,15 @@ module _ {B : Type 0} where
   map-on f (w ∷ ws) (c ∷ cs) = ap (λ (l : List B). f (term w c) ∷ l) (map-on f ws cs)
 
   -- what looks at weights alone, and at codes alone
-  pub map-weights-on : (f : ℤ → B) (ws : List ℤ) (cs : List ℕ) → length ws ≡ length cs → map (λ (t : Term). f (t .weight)) (termsOn ws cs) ≡ map f ws
+  pub map-weights-on : (f : ℤ → B) (ws : List ℤ) (cs : List ℕ) → length ws ≡ length cs
+      → map (λ (t : Term). f (t .weight)) (termsOn ws cs) ≡ map f ws
   unfolding termsOn
   map-weights-on f [] cs h = refl
   map-weights-on f (w ∷ ws) [] h = absurd (omega arith)
   map-weights-on f (w ∷ ws) (c ∷ cs) h = ap (λ (l : List B). f w ∷ l) (map-weights-on f ws cs (omega arith))
 
-  pub map-codes-on : (f : ℕ → B) (ws : List ℤ) (cs : List ℕ) → length ws ≡ length cs → map (λ (t : Term). f (t .code)) (termsOn ws cs) ≡ map f cs
+  pub map-codes-on : (f : ℕ → B) (ws : List ℤ) (cs : List ℕ) → length ws ≡ length cs
+      → map (λ (t : Term). f (t .code)) (termsOn ws cs) ≡ map f cs
   unfolding termsOn
   map-codes-on f [] [] h = refl
   map-codes-on f [] (c ∷ cs) h = absurd (omega arith)

@@ -1,13 +1,15 @@
 // What is asked of rows and terms in lent columns (01, "Numbers and tables"), by reader, normaliser, evaluator and writer alike: how many there is room for,
-// whether a row's terms lie in their columns, whether its variables are within the limit, how large its weights are together, and whether a sum is in 64 signed
+// which terms a row of a kind has and whether they lie in their columns, whether its variables are within the limit, how large its weights are together, and whether a sum is in 64 signed
 // bits. Assumes nothing.
-use symbols::Lit;
+use definitions::COMMENT;
+use literals::Lit;
 ghost use mathlib.Core.Path.{_≡_};
 ghost use Prim.Native.Nat.{_+_, min};
 ghost use lib.Dec.{leb};
 ghost use lib.ListN.{length};
 ghost use lib.IntN.{natAbs, _+ℤ_};
 ghost use Rattle.definitions.specs.Limits.{inI64};
+ghost use Rattle.columns.specs.Kinds.{termsOfKind, firstOfKind};
 ghost use Rattle.columns.specs.Sizes.{capped};
 ghost use Rattle.columns.specs.Parts.{codesIndexed, weightSizes};
 
@@ -49,6 +51,20 @@ pub fn in_column(first: usize, count: usize, room: usize) -> bool
         return false;
     }
     count <= room - first
+}
+
+// How many terms a row has. A comment's count is that of its bytes.
+pub fn terms_of(kind: u8, count: usize) -> usize
+    ensures { λ r. ⌜ r ≡ termsOfKind kind count ⌝ }
+{
+    if kind == COMMENT { 0 } else { count }
+}
+
+// "Its first term (the count of terms before it)"; a comment's is its offset in the file.
+pub fn first_of(kind: u8, offset: usize, term: usize) -> usize
+    ensures { λ r. ⌜ r ≡ firstOfKind kind offset term ⌝ }
+{
+    if kind == COMMENT { offset } else { term }
 }
 
 // Whether no literal has "an index above its limit".

@@ -1,21 +1,24 @@
--- Tables by their columns and row by row: laws of `over`, one entry or one part at a time; of `filled`, line by line; and of `rowByRow`, for a walk that has
--- passed some rows.
+-- How do columns fill? Laws of `over`, one entry or one part at a time; of `filled`, line by line; and of `rowByRow`, for a walk
+-- that has passed some rows.
 use Prim.Native.Nat.{ℕ, suc, _+_, _-_, _≤_, _<_}
 use mathlib.Core.Path.{_≡_, refl, sym, ap, _∙_}
 use mathlib.Core.Bool.{Bool, true, false, cond}
 use mathlib.Core.List.{List, [], _∷_, _++_, map, map-append, append-assoc, append-nil}
 use native.Mathlib.Omega.{arith}
 use native.Mathlib.Numerals.{add-one}
-use borrow.Author.Tests.{leb-true}
+use borrow.Author.Tests.{leb-true, le-leb}
 use borrow.Rule.Slice.PartMut.{putMid}
 use lib.Dec.{leb}
 use lib.IntN.{ℤ}
 use lib.ListN.{length, take, drop, getD, set, length-append, length-drop, length-map, drop-of-length-le}
-use lib.Seq.{drop-cons, drop-drop, take-all, set-append-seam, take-append-seam, drop-append-seam}
+use lib.Seq.{drop-cons, drop-drop, set-append-seam, take-append-seam, drop-append-seam}
 use Rattle.definitions.specs.Lists.{over, joined, AllOf}
 use Rattle.definitions.specs.Refusal.{Refusal, refusal, needed, Checked, refuse, accept}
 use Rattle.definitions.specs.Row.{Term, weightOf, literalOf, Line, termsOf}
-use Rattle.definitions.specs.Table.{Table, table, rowRoom, termRoom, Outcome, refused, accepted, kindIn, firstIn, countIn, boundIn, firstsFrom, allTerms, filled, fitted, onRow, rowByRow, andThen}
+use Rattle.definitions.specs.Table.{Table, table, rowRoom, termRoom, Outcome, refused, accepted, kindIn, firstIn, countIn}
+use Rattle.definitions.specs.Table.{boundIn, firstsFrom, allTerms, filled, fitted, onRow, rowByRow, andThen}
+use Rattle.definitions.proofs.Parts.{part-is}
+use Rattle.definitions.proofs.Truths.{never}
 
 -- ---- `over`
 
@@ -43,7 +46,7 @@ module _ {A : Type 0} where
 
   -- the part from n to the end, as a call that is lent it sees it, and as it comes back
   pub rest-of : (l : List A) (n : ℕ) → take (length l - n) (drop n l) ≡ drop n l
-  rest-of l n = take-all (length l - n) (drop n l) (omega (arith, length-drop n l))
+  rest-of = part-is
 
   put-rest : (l ys : List A) (n : ℕ) → putMid n (length l - n) l ys ≡ take n l ++ ys
   put-rest l ys n =
@@ -59,7 +62,8 @@ module _ {A : Type 0} where
       ∙ ap (λ (r : List A). take n r ++ over ys (drop n r)) q
       ∙ over-part xs ys l₀ n e
 
-  pub part-back : (l xs ys : List A) (n : ℕ) → ys ≡ over xs (take (length l - n) (drop n l)) → putMid n (length l - n) l ys ≡ take n l ++ over xs (drop n l)
+  pub part-back : (l xs ys : List A) (n : ℕ) → ys ≡ over xs (take (length l - n) (drop n l))
+      → putMid n (length l - n) l ys ≡ take n l ++ over xs (drop n l)
   part-back l xs ys n e = put-rest l ys n ∙ ap (λ (r : List A). take n l ++ r) (e ∙ ap (over xs) (rest-of l n))
 
 -- ---- one more at the end of a list
@@ -83,11 +87,13 @@ unfolding firstsFrom
 firsts-length [] m = refl
 firsts-length (l ∷ ls) m = ap suc (firsts-length ls (m + length (termsOf l)))
 
-pub firsts-snoc : (ls : List Line) (l : Line) (m : ℕ) → firstsFrom m (ls ++ (l ∷ [])) ≡ firstsFrom m ls ++ (firstIn (m + length (allTerms ls)) l ∷ [])
+pub firsts-snoc : (ls : List Line) (l : Line) (m : ℕ)
+    → firstsFrom m (ls ++ (l ∷ [])) ≡ firstsFrom m ls ++ (firstIn (m + length (allTerms ls)) l ∷ [])
 unfolding firstsFrom joined
 firsts-snoc [] l m = ap (λ (k : ℕ). firstIn k l ∷ []) (omega arith)
 firsts-snoc (x ∷ ls) l m =
-    let e : m + length (termsOf x) + length (allTerms ls) ≡ m + length (termsOf x ++ allTerms ls) = omega (arith, length-append (termsOf x) (allTerms ls)) in
+    let e : m + length (termsOf x) + length (allTerms ls) ≡ m + length (termsOf x ++ allTerms ls) =
+    omega (arith, length-append (termsOf x) (allTerms ls)) in
     ap (λ (r : List ℕ). firstIn m x ∷ r)
     (firsts-snoc ls l (m + length (termsOf x)) ∙ ap (λ (k : ℕ). firstsFrom (m + length (termsOf x)) ls ++ (firstIn k l ∷ [])) e)
 
@@ -121,13 +127,16 @@ filled-lengths ls o h g =
       literals = over-length (map literalOf (allTerms ls)) (o .literals) (omega (arith, length-map (allTerms ls) literalOf));
     }
 
-table-eq : {k k′ f f′ n n′ l l′ : List ℕ} {b b′ w w′ : List ℤ} → k ≡ k′ → f ≡ f′ → n ≡ n′ → b ≡ b′ → w ≡ w′ → l ≡ l′ → table k f n b w l ≡ table k′ f′ n′ b′ w′ l′
+table-eq : {k k′ f f′ n n′ l l′ : List ℕ} {b b′ w w′ : List ℤ} → k ≡ k′ → f ≡ f′ → n ≡ n′ → b ≡ b′ → w ≡ w′ → l ≡ l′
+    → table k f n b w l ≡ table k′ f′ n′ b′ w′ l′
 table-eq p q r s t u = λ x. table (p x) (q x) (r x) (s x) (t x) (u x)
 
 -- a line more, behind ls
-module _ (ls : List Line) (y : Line) (o : Table) (n m : ℕ) (rows : n ≡ length ls) (terms : m ≡ length (allTerms ls)) (room : n < rowRoom o) where
+module _ (ls : List Line) (y : Line) (o : Table) (n m : ℕ) (rows : n ≡ length ls) (terms : m ≡ length (allTerms ls))
+    (room : n < rowRoom o) where
   column-more : {A : Type 0} (f : Line → A) (l : List A) → n < length l → set (over (map f ls) l) n (f y) ≡ over (map f (ls ++ (y ∷ []))) l
-  column-more {A} f l h = over-set (map f ls) l n (f y) (rows ∙ sym (length-map ls f)) h ∙ ap (λ (r : List A). over r l) (sym (map-snoc f ls y))
+  column-more {A} f l h =
+      over-set (map f ls) l n (f y) (rows ∙ sym (length-map ls f)) h ∙ ap (λ (r : List A). over r l) (sym (map-snoc f ls y))
 
   firsts-more : set (over (firstsFrom 0 ls) (o .firsts)) n (firstIn m y) ≡ over (firstsFrom 0 (ls ++ (y ∷ []))) (o .firsts)
   firsts-more =
@@ -135,7 +144,9 @@ module _ (ls : List Line) (y : Line) (o : Table) (n m : ℕ) (rows : n ≡ lengt
       ∙ ap (λ (k : ℕ). over (firstsFrom 0 ls ++ (firstIn k y ∷ [])) (o .firsts)) (omega arith)
       ∙ ap (λ (r : List ℕ). over r (o .firsts)) (sym (firsts-snoc ls y 0))
 
-  terms-more : {A : Type 0} (f : Term → A) (l : List A) → take m (over (map f (allTerms ls)) l) ++ over (map f (termsOf y)) (drop m (over (map f (allTerms ls)) l)) ≡ over (map f (allTerms (ls ++ (y ∷ [])))) l
+  terms-more : {A : Type 0} (f : Term → A) (l : List A)
+      → take m (over (map f (allTerms ls)) l) ++ over (map f (termsOf y)) (drop m (over (map f (allTerms ls)) l))
+      ≡ over (map f (allTerms (ls ++ (y ∷ [])))) l
   terms-more {A} f l =
       over-part (map f (allTerms ls)) (map f (termsOf y)) l m (terms ∙ sym (length-map (allTerms ls) f))
       ∙ ap (λ (r : List A). over r l) (sym (ap (map f) (joined-snoc termsOf ls y) ∙ map-append f (allTerms ls) (termsOf y)))
@@ -143,7 +154,8 @@ module _ (ls : List Line) (y : Line) (o : Table) (n m : ℕ) (rows : n ≡ lengt
   pub filled-more : (t : Table) (w : List ℤ) (l : List ℕ) → t ≡ filled ls o
       → w ≡ take m (t .weights) ++ over (map weightOf (termsOf y)) (drop m (t .weights))
       → l ≡ take m (t .literals) ++ over (map literalOf (termsOf y)) (drop m (t .literals))
-      → table (set (t .kinds) n (kindIn y)) (set (t .firsts) n (firstIn m y)) (set (t .counts) n (countIn y)) (set (t .bounds) n (boundIn y)) w l ≡ filled (ls ++ (y ∷ [])) o
+      → table (set (t .kinds) n (kindIn y)) (set (t .firsts) n (firstIn m y)) (set (t .counts) n (countIn y))
+      (set (t .bounds) n (boundIn y)) w l ≡ filled (ls ++ (y ∷ [])) o
   unfolding filled
   filled-more t w l e p q =
       table-eq
@@ -151,8 +163,10 @@ module _ (ls : List Line) (y : Line) (o : Table) (n m : ℕ) (rows : n ≡ lengt
       (ap (λ (x : Table). set (x .firsts) n (firstIn m y)) e ∙ firsts-more)
       (ap (λ (x : Table). set (x .counts) n (countIn y)) e ∙ column-more countIn (o .counts) (omega arith))
       (ap (λ (x : Table). set (x .bounds) n (boundIn y)) e ∙ column-more boundIn (o .bounds) (omega arith))
-      (p ∙ ap (λ (x : Table). take m (x .weights) ++ over (map weightOf (termsOf y)) (drop m (x .weights))) e ∙ terms-more weightOf (o .weights))
-      (q ∙ ap (λ (x : Table). take m (x .literals) ++ over (map literalOf (termsOf y)) (drop m (x .literals))) e ∙ terms-more literalOf (o .literals))
+      (p ∙ ap (λ (x : Table). take m (x .weights) ++ over (map weightOf (termsOf y)) (drop m (x .weights))) e
+      ∙ terms-more weightOf (o .weights))
+      (q ∙ ap (λ (x : Table). take m (x .literals) ++ over (map literalOf (termsOf y)) (drop m (x .literals))) e
+      ∙ terms-more literalOf (o .literals))
 
 -- ---- row by row
 
@@ -175,7 +189,7 @@ module _ {B : Type 0} where
     pub is : bs ≡ pre ++ rest
 
   begins-by : (pre bs : List B) (o : Outcome (List B)) → onto pre o ≡ accepted bs → Begins pre bs
-  begins-by pre bs (refused r) e = let z : _≡_ {A = ℕ} 0 1 = cc in absurd (omega arith)
+  begins-by pre bs (refused r) e = never cc
   begins-by pre bs (accepted q) e = record { rest = q; is = cc }
 
   pub begins-length : (pre bs : List B) → Begins pre bs → length pre ≤ length bs
@@ -225,7 +239,7 @@ module _ {A B : Type 0} (f : A → Checked B) (es : List A) where
             by (refuse n) e = clash (passed-refused n e) all
               where
                 clash : {o : Outcome (List B)} {r : Refusal} → o ≡ refused r → o ≡ accepted bs → Next
-                clash x y = let z : _≡_ {A = ℕ} 0 1 = cc in absurd (omega arith)
+                clash x y = never cc
             by (accept b) e = record { value = b; accepts = e }
 
     pub passed-begins : (bs : List B) → rowByRow f 0 es ≡ accepted bs → Begins pre bs
@@ -243,13 +257,15 @@ module _ {A B C : Type 0} (g : A → Checked B) (h : B → Checked C) (k : B →
   rows-both i [] cs e = record { first = []; accepts = refl; then = cc }
   rows-both i (a ∷ l) cs e = by (g a) refl (rowByRow (λ (x : A). andThen (g x) h) (i + 1) l) e (λ xs q. rows-both (i + 1) l xs q)
     where
-      by : (c : Checked B) → g a ≡ c → (o : Outcome (List C)) → onRow i (andThen c h) o ≡ accepted cs → ((xs : List C) → o ≡ accepted xs → Both (i + 1) l xs) → Both i (a ∷ l) cs
-      by (refuse n) q o e ih = let z : _≡_ {A = ℕ} 0 1 = cc in absurd (omega arith)
+      by : (c : Checked B) → g a ≡ c → (o : Outcome (List C)) → onRow i (andThen c h) o ≡ accepted cs
+          → ((xs : List C) → o ≡ accepted xs → Both (i + 1) l xs) → Both i (a ∷ l) cs
+      by (refuse n) q o e ih = never cc
       by (accept b) q o e ih = on (h b) refl o e ih
         where
-          on : (d : Checked C) → h b ≡ d → (o : Outcome (List C)) → onRow i d o ≡ accepted cs → ((xs : List C) → o ≡ accepted xs → Both (i + 1) l xs) → Both i (a ∷ l) cs
-          on (refuse n) p o e ih = let z : _≡_ {A = ℕ} 0 1 = cc in absurd (omega arith)
-          on (accept c) p (refused r) e ih = let z : _≡_ {A = ℕ} 0 1 = cc in absurd (omega arith)
+          on : (d : Checked C) → h b ≡ d → (o : Outcome (List C)) → onRow i d o ≡ accepted cs
+              → ((xs : List C) → o ≡ accepted xs → Both (i + 1) l xs) → Both i (a ∷ l) cs
+          on (refuse n) p o e ih = never cc
+          on (accept c) p (refused r) e ih = never cc
           on (accept c) p (accepted xs) e ih =
               let m = ih xs refl in
               let z : c ∷ xs ≡ cs = cc in
@@ -261,18 +277,20 @@ module _ {A B C : Type 0} (g : A → Checked B) (h : B → Checked C) (k : B →
               }
 
 -- a second check that gives what it was given
-pub rows-again : {A B : Type 0} (g : A → Checked B) (h : B → Checked B) (i : ℕ) (l : List A) (bs : List B) → rowByRow g i l ≡ accepted bs → AllOf (λ (b : B). h b ≡ accept b) bs
+pub rows-again : {A B : Type 0} (g : A → Checked B) (h : B → Checked B) (i : ℕ) (l : List A) (bs : List B)
+    → rowByRow g i l ≡ accepted bs → AllOf (λ (b : B). h b ≡ accept b) bs
     → rowByRow (λ (a : A). andThen (g a) h) i l ≡ accepted bs
 unfolding rowByRow
 rows-again g h i [] bs e x = e
 rows-again {A} {B} g h i (a ∷ l) bs e x = by (g a) refl (rowByRow g (i + 1) l) bs e x (λ ys q y. rows-again g h (i + 1) l ys q y)
   where
     by : (c : Checked B) → g a ≡ c → (o : Outcome (List B)) (bs : List B) → onRow i c o ≡ accepted bs → AllOf (λ (b : B). h b ≡ accept b) bs
-        → ((ys : List B) → o ≡ accepted ys → AllOf (λ (b : B). h b ≡ accept b) ys → rowByRow (λ (y : A). andThen (g y) h) (i + 1) l ≡ accepted ys)
+        → ((ys : List B) → o ≡ accepted ys → AllOf (λ (b : B). h b ≡ accept b) ys
+        → rowByRow (λ (y : A). andThen (g y) h) (i + 1) l ≡ accepted ys)
         → onRow i (andThen (g a) h) (rowByRow (λ (y : A). andThen (g y) h) (i + 1) l) ≡ accepted bs
-    by (refuse n) q o bs e x ih = let z : _≡_ {A = ℕ} 0 1 = cc in absurd (omega arith)
-    by (accept b) q (refused r) bs e x ih = let z : _≡_ {A = ℕ} 0 1 = cc in absurd (omega arith)
-    by (accept b) q (accepted xs) [] e x ih = let z : _≡_ {A = ℕ} 0 1 = cc in absurd (omega arith)
+    by (refuse n) q o bs e x ih = never cc
+    by (accept b) q (refused r) bs e x ih = never cc
+    by (accept b) q (accepted xs) [] e x ih = never cc
     by (accept b) q (accepted xs) (y ∷ ys) e x ih =
         let u : b ≡ y = cc in
         let v : xs ≡ ys = cc in
@@ -287,13 +305,23 @@ pub record Fits (o : Table) (q : Outcome (List Line)) (ls : List Line) : Type 0 
 
 pub fitted-accepted : (o : Table) (q : Outcome (List Line)) (ls : List Line) → fitted o q ≡ accepted ls → Fits o q ls
 unfolding fitted
-fitted-accepted o (refused r) ls e = let z : _≡_ {A = ℕ} 0 1 = cc in absurd (omega arith)
+fitted-accepted o (refused r) ls e = never cc
 fitted-accepted o (accepted ys) ls e = by (leb (length ys) (rowRoom o)) refl (leb (length (allTerms ys)) (termRoom o)) refl e
   where
     by : (p : Bool) → leb (length ys) (rowRoom o) ≡ p → (s : Bool) → leb (length (allTerms ys)) (termRoom o) ≡ s
-        → cond p (cond s (accepted ys) (refused (refusal 10 (needed (length (allTerms ys)))))) (refused (refusal 9 (needed (length ys)))) ≡ accepted ls → Fits o (accepted ys) ls
+        → cond p (cond s (accepted ys) (refused (refusal 10 (needed (length (allTerms ys))))))
+        (refused (refusal 9 (needed (length ys)))) ≡ accepted ls → Fits o (accepted ys) ls
     by true u true v e =
         let z : ys ≡ ls = cc in
-        rw (← z) (record { accepts = refl; rows = leb-true (length ys) (rowRoom o) u; terms = leb-true (length (allTerms ys)) (termRoom o) v })
-    by true u false v e = let z : _≡_ {A = ℕ} 0 1 = cc in absurd (omega arith)
-    by false u s v e = let z : _≡_ {A = ℕ} 0 1 = cc in absurd (omega arith)
+        rw (← z) (record {
+          accepts = refl;
+          rows = leb-true (length ys) (rowRoom o) u;
+          terms = leb-true (length (allTerms ys)) (termRoom o) v;
+        })
+    by true u false v e = never cc
+    by false u s v e = never cc
+
+pub fitted-all : (o : Table) (ls : List Line) → length ls ≤ rowRoom o → length (allTerms ls) ≤ termRoom o
+    → fitted o (accepted ls) ≡ accepted ls
+unfolding fitted
+fitted-all o ls r n = rw (le-leb (length ls) (rowRoom o) r, le-leb (length (allTerms ls)) (termRoom o) n)

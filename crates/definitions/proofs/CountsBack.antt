@@ -1,4 +1,5 @@
--- How many lines and terms come back of items that are written: of each item a line, one more for each offset, and the terms as many as they are.
+-- How many lines and terms come back of items that are written? Of each item a line, one more for each offset, and the terms as
+-- many as they are.
 use Prim.Native.Nat.{ℕ, _+_}
 use mathlib.Core.Path.{_≡_, refl, ap, _∙_}
 use mathlib.Core.Bool.{Bool, true, false, cond}
@@ -12,6 +13,7 @@ use Rattle.definitions.specs.Table.{allTerms}
 use Rattle.definitions.specs.Write.{flipTerm, flipped, plainTerm, unnegated, printed, isZero, Item, say, line, itemText}
 use Rattle.definitions.specs.Back.{withoutCr, offsetLine, linesBack, termsBack}
 use Rattle.definitions.specs.declared.Mode.{Mode}
+use Rattle.definitions.proofs.Columns.{joined-append}
 use Rattle.definitions.proofs.KnownTexts.{foundFrom}
 use Rattle.definitions.proofs.ItemsBack.{goalText, offsetSaid, remarkLine, linesBy, rowLines, itemLines, linesFrom}
 
@@ -40,7 +42,7 @@ flipped-terms r = by (r .kind)
     by equal = refl
     by objective = refl
 
-printed-terms : (p : Bool) (r : Row) → length (printed p r .terms) ≡ length (r .terms)
+pub printed-terms : (p : Bool) (r : Row) → length (printed p r .terms) ≡ length (r .terms)
 unfolding printed unnegated
 printed-terms true r = length-map (flipped r .terms) plainTerm ∙ flipped-terms r
 printed-terms false r = flipped-terms r
@@ -50,13 +52,16 @@ module _ (first at : ℕ) where
   goal-count b ts = row-and (rowOf objective (pos 0) ts) (remarkLine (at + length (goalText first ts)) (offsetSaid b)) (isZero b)
 
   goal-terms : (b : ℤ) (ts : List Term) → length (allTerms (linesBy objective first at b ts)) ≡ length ts
-  goal-terms b ts = terms-and (rowOf objective (pos 0) ts) (at + length (goalText first ts) + 2) (length (withoutCr (offsetSaid b))) (pos 0) (isZero b)
+  goal-terms b ts =
+      terms-and (rowOf objective (pos 0) ts) (at + length (goalText first ts) + 2) (length (withoutCr (offsetSaid b))) (pos 0) (isZero b)
 
   row-count : (p : Bool) (r : Row) → length (rowLines first at (printed p r)) ≡ 1 + offsetLine (r .kind) (printed p r .bound)
   unfolding printed flipped unnegated
   row-count p r = by p (r .kind)
     where
-      by : (p : Bool) (k : Kind) → length (rowLines first at (printed p (rowOf k (r .bound) (r .terms)))) ≡ 1 + offsetLine k (printed p (rowOf k (r .bound) (r .terms)) .bound)
+      by : (p : Bool) (k : Kind)
+          → length (rowLines first at (printed p (rowOf k (r .bound) (r .terms))))
+          ≡ 1 + offsetLine k (printed p (rowOf k (r .bound) (r .terms)) .bound)
       by true atLeast = refl
       by true atMost = refl
       by true equal = refl
@@ -93,11 +98,7 @@ module _ (m : Mode) where
       omega (arith, length-append (itemLines m at i) (linesFrom m n is), item-count at i, lines-back n is)
 
   joined-terms : (ls ks : List Line) → length (allTerms (ls ++ ks)) ≡ length (allTerms ls) + length (allTerms ks)
-  unfolding joined
-  joined-terms [] ks = omega arith
-  joined-terms (l ∷ ls) ks =
-      let e = joined-terms ls ks in
-      omega (arith, length-append (termsOf l) (allTerms (ls ++ ks)), length-append (termsOf l) (allTerms ls))
+  joined-terms ls ks = ap length (joined-append termsOf ls ks) ∙ length-append (allTerms ls) (allTerms ks)
 
   pub terms-back : (at : ℕ) (is : List Item) → length (allTerms (linesFrom m at is)) ≡ total termsBack is
   unfolding foundFrom total joined

@@ -1,15 +1,16 @@
 -- Is each statement of the document one line, and which bytes may it have? So two equal texts of lines have the same lines.
 use Prim.Native.Nat.{ℕ, zero, suc, _+_, _<_}
 use mathlib.Core.Path.{_≡_, refl, sym, ap, _∙_}
-use mathlib.Core.List.{List, [], _∷_, _++_, map, append-assoc, head-eq-of-cons-eq, tail-eq-of-cons-eq}
+use mathlib.Core.List.{List, [], _∷_, _++_, append-assoc, head-eq-of-cons-eq, tail-eq-of-cons-eq}
 use native.Mathlib.Omega.{arith}
 use lib.ListN.{length, length-append}
 use Rattle.definitions.specs.Lists.{joined, AllOf}
 use Rattle.definitions.specs.Bytes.{minText, lf}
 use Rattle.definitions.specs.Write.{closed, oneLine}
 use Rattle.definitions.specs.Document as D
+use Rattle.definitions.proofs.Each.{both-parts, each-mapped, each-so}
 use Rattle.definitions.proofs.DocumentTerms.{digitBytes}
-use Rattle.definitions.proofs.DocumentStatements.{both-parts, lf-free, header-free, mostOf}
+use Rattle.definitions.proofs.DocumentStatements.{lf-free, header-free, mostOf, all-statements}
 
 -- ---- lines
 
@@ -47,7 +48,8 @@ same-fronts (a ∷ x) (b ∷ y) p q g h e =
 same-lines : (x y p q : List ℕ) → OneLine x → OneLine y → x ++ p ≡ y ++ q → (x ≡ y) × (p ≡ q)
 same-lines x y p q l k e =
     let whole : l .front ++ (lf ∷ p) ≡ k .front ++ (lf ∷ q) =
-    sym (ap (λ (z : List ℕ). z ++ p) (l .whole) ∙ append-assoc (l .front) (lf ∷ []) p) ∙ e ∙ ap (λ (z : List ℕ). z ++ q) (k .whole) ∙ append-assoc (k .front) (lf ∷ []) q in
+    sym (ap (λ (z : List ℕ). z ++ p) (l .whole) ∙ append-assoc (l .front) (lf ∷ []) p) ∙ e ∙ ap (λ (z : List ℕ). z ++ q) (k .whole)
+    ∙ append-assoc (k .front) (lf ∷ []) q in
     let r = same-fronts (l .front) (k .front) p q (l .free) (k .free) whole in
     (l .whole ∙ ap (λ (z : List ℕ). z ++ (lf ∷ [])) (r .0) ∙ sym (k .whole), r .1)
 
@@ -69,7 +71,9 @@ pub record Allowed (P : ℕ → Type 0) : Type 0 where
 
 -- a constraint up to its `;`
 abbrev pub constraintFront : D.Constraint → List ℕ
-constraintFront c = D.sumText (D.termsOf (c .sum)) ++ (D.relationText (c .relation) ++ (D.spaces (c .gap) ++ (D.integerText (c .bound) ++ D.spaces (c .behind))))
+constraintFront c =
+    D.sumText (D.termsOf (c .sum))
+    ++ (D.relationText (c .relation) ++ (D.spaces (c .gap) ++ (D.integerText (c .bound) ++ D.spaces (c .behind))))
 
 module _ (P : ℕ → Type 0) (a : Allowed P) where
   spaces-bytes : (n : ℕ) → AllOf P (D.spaces n)
@@ -102,8 +106,11 @@ module _ (P : ℕ → Type 0) (a : Allowed P) where
     unfolding D.termText
     term-bytes t g =
         both-parts P (D.integerText (t .weight)) _ (integer-bytes (t .weight) (g .weight))
-        (both-parts P (D.spaces (suc (t .gap))) _ (spaces-bytes (suc (t .gap)))
-        (a .letter, both-parts P (digitBytes (t .first ∷ t .others)) (D.spaces (suc (t .behind))) (digits-bytes (t .first ∷ t .others) (g .digits)) (spaces-bytes (suc (t .behind)))))
+        (both-parts P (D.spaces (suc (t .gap))) _ (spaces-bytes (suc (t .gap))) (
+          a .letter,
+          both-parts P (digitBytes (t .first ∷ t .others)) (D.spaces (suc (t .behind)))
+              (digits-bytes (t .first ∷ t .others) (g .digits)) (spaces-bytes (suc (t .behind))),
+        ))
 
     sum-bytes : (ts : List D.WeightedTerm) → AllOf (D.GoodTerm most) ts → AllOf P (D.sumText ts)
     unfolding joined
@@ -114,7 +121,8 @@ module _ (P : ℕ → Type 0) (a : Allowed P) where
     constraint-bytes c g =
         both-parts P (D.sumText (D.termsOf (c .sum))) _ (sum-bytes (D.termsOf (c .sum)) (g .terms))
         (both-parts P (D.relationText (c .relation)) _ (relation-bytes (c .relation))
-        (both-parts P (D.spaces (c .gap)) _ (spaces-bytes (c .gap)) (both-parts P (D.integerText (c .bound)) _ (integer-bytes (c .bound) (g .bound)) (spaces-bytes (c .behind)))))
+        (both-parts P (D.spaces (c .gap)) _ (spaces-bytes (c .gap))
+        (both-parts P (D.integerText (c .bound)) _ (integer-bytes (c .bound) (g .bound)) (spaces-bytes (c .behind)))))
 
 no-lf-allowed : Allowed D.NoLineEnd
 no-lf-allowed = record {
@@ -145,7 +153,8 @@ module _ (most : ℕ) where
       line-behind minText _ min-free
       (line-behind (D.spaces (o .gap)) _ (spaces-bytes D.NoLineEnd no-lf-allowed (o .gap))
       (line-behind (D.sumText (D.termsOf (o .sum))) closed (sum-bytes D.NoLineEnd no-lf-allowed most (D.termsOf (o .sum)) g) closed-line))
-  statement-line (D.constraint c) g = rw (constraint-parts c) (line-behind (constraintFront c) closed (constraint-bytes D.NoLineEnd no-lf-allowed most c g) closed-line)
+  statement-line (D.constraint c) g =
+      rw (constraint-parts c) (line-behind (constraintFront c) closed (constraint-bytes D.NoLineEnd no-lf-allowed most c g) closed-line)
 
   -- the first statement is the first line
   pub record Split (y rest : List ℕ) : Type 0 where
@@ -158,34 +167,23 @@ module _ (most : ℕ) where
 
   pub split-line : (xs : List D.Statement) (y rest : List ℕ) → AllOf Shaped xs → OneLine y → D.statementsText xs ≡ y ++ rest → Split y rest
   unfolding joined
-  split-line [] y rest g l e = absurd (omega (arith, ap length e, ap length (l .whole), length-append y rest, length-append (l .front) (lf ∷ [])))
+  split-line [] y rest g l e =
+      absurd (omega (arith, ap length e, ap length (l .whole), length-append y rest, length-append (l .front) (lf ∷ [])))
   split-line (x ∷ xs) y rest g l e =
       let r = same-lines (D.statementText x) y (D.statementsText xs) rest (statement-line x (g .0)) l e in
       record { x = x; xs = xs; shaped = g .0; others = g .1; text = r .0; behind = r .1 }
 
   -- ---- the statements of a file
 
-  shaped-comments : (ts : List (List ℕ)) → AllOf Free ts → AllOf Shaped (map D.comment ts)
-  shaped-comments [] g = tt
-  shaped-comments (t ∷ ts) g = (g .0, shaped-comments ts (g .1))
-
-  shaped-goals : (gs : List D.Objective) → AllOf (λ g. AllOf (D.GoodTerm most) (D.termsOf (g .sum))) gs → AllOf Shaped (map D.goal gs)
-  shaped-goals [] g = tt
-  shaped-goals (o ∷ gs) g = (g .0, shaped-goals gs (g .1))
-
-  shaped-body : (xs : List D.Statement) → AllOf (D.GoodStatement most) xs → AllOf Shaped xs
-  shaped-body [] g = tt
-  shaped-body (D.comment t ∷ xs) g = (g .0, shaped-body xs (g .1))
-  shaped-body (D.goal o ∷ xs) g = absurd (g .0)
-  shaped-body (D.constraint c ∷ xs) g = (g .0, shaped-body xs (g .1))
+  shaped-statement : (x : D.Statement) → D.GoodStatement most x → Shaped x
+  shaped-statement (D.comment t) g = g
+  shaped-statement (D.goal o) g = absurd g
+  shaped-statement (D.constraint c) g = g
 
 pub shaped-file : (f : D.File) → D.WellFormed f → AllOf (Shaped (mostOf f)) (D.statementsOf f)
-unfolding D.statementsOf
 shaped-file f w =
     let n = mostOf f in
-    let cs = map D.comment (f .comments) in
-    let gs = map D.goal (f .objective) in (
-      header-free f,
-      both-parts (Shaped n) cs (gs ++ f .body) (shaped-comments n (f .comments) (w .comments))
-          (both-parts (Shaped n) gs (f .body) (shaped-goals n (f .objective) (w .objective)) (shaped-body n (f .body) (w .body))),
-    )
+    all-statements (Shaped n) f (header-free f)
+    (each-mapped (Shaped n) D.comment (f .comments) (w .comments))
+    (each-mapped (Shaped n) D.goal (f .objective) (w .objective))
+    (each-so (D.GoodStatement n) (Shaped n) (shaped-statement n) (f .body) (w .body))

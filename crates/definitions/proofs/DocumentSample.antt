@@ -1,4 +1,5 @@
--- The document's statement is not empty: one file of its grammar, with its text, that is well formed and within the limits.
+-- Is there a file of the document? One of its grammar, with its text, that is well formed and within the limits: what
+-- OpbDocument.antt says is not empty.
 use Prim.Native.Nat.{ℕ}
 use mathlib.Core.Path.{_≡_, refl}
 use mathlib.Core.List.{[], _∷_}
@@ -7,7 +8,7 @@ use Rattle.definitions.specs.Lists.{joined}
 use Rattle.definitions.specs.Limits.{inI64}
 use Rattle.definitions.specs.Document as D
 use Rattle.definitions.specs.DocumentRead.{weightsOf, SumWithin, WithinLimits}
-use Rattle.definitions.specs.TableP.{bytes}
+use Rattle.definitions.specs.Bytes.{bytes}
 
 digit : ℕ → D.Integer
 digit d = record { sign = D.unsigned; first = d; others = [] }
@@ -26,13 +27,14 @@ pub sample : D.File
 sample = record {
   variables = digit 2;
   constraints = digit 1;
-  comments = (97 ∷ []) ∷ [];
+  comments = bytes "a" ∷ [];
   objective = record { gap = 1; sum = sum } ∷ [];
   body = D.constraint (record { sum = sum; relation = D.atLeast; gap = 1; bound = digit 0; behind = 0 }) ∷ [];
 }
 
 pub sample-text : D.fileText sample ≡ bytes "* #variable= 2 #constraint= 1\n*a\nmin: +1  x1 -02 x2 ;\n+1  x1 -02 x2 >= 0;\n"
-unfolding sample digit left right sum D.spaces D.integerText D.termText D.constraintText D.objectiveText D.commentText D.statementText D.headerOf D.statementsOf D.fileText joined
+unfolding sample digit left right sum D.spaces D.integerText D.termText D.constraintText D.objectiveText D.commentText
+    D.statementText D.headerOf D.statementsOf D.fileText joined
 sample-text = refl
 
 good-left : D.GoodTerm 2 left
@@ -41,7 +43,12 @@ good-left = record { weight = record { digits = (omega arith, tt) }; digits = (o
 
 good-right : D.GoodTerm 2 right
 unfolding right D.variableOf D.digitsValue
-good-right = record { weight = record { digits = (omega arith, (omega arith, tt)) }; digits = (omega arith, tt); low = omega arith; high = omega arith }
+good-right = record {
+  weight = record { digits = (omega arith, (omega arith, tt)) };
+  digits = (omega arith, tt);
+  low = omega arith;
+  high = omega arith;
+}
 
 pub sample-good : D.WellFormed sample
 unfolding sample digit sum D.digitsValue D.constraintCount
@@ -56,7 +63,8 @@ sample-good = record {
 }
 
 pub sample-within : WithinLimits sample
-unfolding sample digit left right sum D.spaces D.integerText D.termText D.constraintText D.objectiveText D.commentText D.statementText D.headerOf D.statementsOf D.fileText joined D.variableOf D.digitsValue D.integerValue weightsOf inI64
+unfolding sample digit left right sum D.spaces D.integerText D.termText D.constraintText D.objectiveText D.commentText
+    D.statementText D.headerOf D.statementsOf D.fileText joined D.variableOf D.digitsValue D.integerValue weightsOf inI64
 sample-within =
     let small : SumWithin (D.termsOf sum) = record { weights = omega arith; indexes = (omega arith, (omega arith, tt)) } in
     record { file = omega arith; statements = (tt, (tt, (small, ((small, refl), tt)))) }

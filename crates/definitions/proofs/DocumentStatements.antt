@@ -11,11 +11,12 @@ use lib.Seq.{drop-append-add}
 use lib.IntN.{ℤ, pos, +ℤ-idr}
 use Rattle.definitions.specs.Lists.{joined, AllOf}
 use Rattle.definitions.specs.Limits.{weightLimit, inI64}
-use Rattle.definitions.specs.Bytes.{minText, isAt, blanks, lf, space, star}
+use Rattle.definitions.specs.Bytes.{bytes, minText, isAt, blanks, lf, space, star}
 use Rattle.definitions.specs.Walk.{item, items, all}
 use Rattle.definitions.specs.Number.{leading}
 use Rattle.definitions.specs.Row.{objective, rowOf, Line, comment, row, sizes}
-use Rattle.definitions.specs.Text.{beginsTerm, operator, ending, comparisonOf, comparison, kindOf, boundOf, constraint, goal, spaceAfter, statement, inFile}
+use Rattle.definitions.specs.Text.{beginsTerm, operator, ending, comparisonOf, comparison, kindOf, boundOf, constraint, goal}
+use Rattle.definitions.specs.Text.{spaceAfter, statement, inFile}
 use Rattle.definitions.specs.File.{statements}
 use Rattle.definitions.specs.Meaning.{sumOf, holdsBy, holds, valueOf}
 use Rattle.definitions.specs.Write.{oneLine}
@@ -25,6 +26,7 @@ use Rattle.definitions.specs.DocumentRead.{fromOne, SumWithin, Statement
 use Rattle.definitions.specs.DocumentRead as Read
 use Rattle.definitions.specs.declared.OpbOperator.{OpbOperator}
 use Rattle.definitions.specs.declared.OpbOperator.the-variants.{GE, EQ}
+use Rattle.definitions.proofs.Each.{both-parts, left-part, right-part, each-mapped}
 use Rattle.definitions.proofs.Truths.{both}
 use Rattle.definitions.proofs.Whole.{true-in}
 use Rattle.definitions.proofs.Statements.{statement-moves}
@@ -33,7 +35,8 @@ use Rattle.definitions.proofs.Readback.{Reads, begun-no-blank, reads-ga
 use Rattle.definitions.proofs.RowsBack.{reads-comparison, reads-constraint, reads-goal}
 use Rattle.definitions.proofs.StatementsBack.{constraint-statement, goal-statement, comment-statement, space-longer}
 use Rattle.definitions.proofs.MeansBack.{front-without}
-use Rattle.definitions.proofs.DocumentTerms.{digitBytes, spaces-blanks, integer-begins, reads-integer, termFor, Readable, sum-begins, reads-document-sum, sizes-of, sum-means, readable-sum}
+use Rattle.definitions.proofs.DocumentTerms.{digitBytes, spaces-blanks, integer-begins, reads-integer, termFor, Readable}
+use Rattle.definitions.proofs.DocumentTerms.{sum-begins, reads-document-sum, sizes-of, sum-means, readable-sum}
 
 -- ---- what is asked of a statement: of the document, and 01's limits
 abbrev pub Fair : ℕ → D.Statement → Type 0
@@ -64,11 +67,14 @@ unfolding isAt
 space-after [] rest = refl
 space-after (b ∷ t) rest = refl
 
-taken-comment : (t rest : List ℕ) → AllOf D.NoLineEnd t → Taken (statement fromOne) inFile (D.commentText t) (λ at. lineAt at (D.comment t) ∷ []) rest
+taken-comment : (t rest : List ℕ) → AllOf D.NoLineEnd t
+    → Taken (statement fromOne) inFile (D.commentText t) (λ at. lineAt at (D.comment t) ∷ []) rest
 unfolding D.commentText
 taken-comment t rest g =
-    taken-one (statement fromOne) inFile (statement-moves fromOne) (star ∷ (t ++ (lf ∷ []))) rest (comment (1 + spaceAfter t) (length (withoutCr t) - spaceAfter t) (pos 0))
-    (comment-statement fromOne t rest (no-lf t g) ∙ ap (λ (k : ℕ). item (comment (1 + k) (length (withoutCr t) - k) (pos 0)) (length (star ∷ (t ++ (lf ∷ []))))) (space-after t rest))
+    taken-one (statement fromOne) inFile (statement-moves fromOne) (star ∷ (t ++ (lf ∷ []))) rest
+    (comment (1 + spaceAfter t) (length (withoutCr t) - spaceAfter t) (pos 0))
+    (comment-statement fromOne t rest (no-lf t g)
+    ∙ ap (λ (k : ℕ). item (comment (1 + k) (length (withoutCr t) - k) (pos 0)) (length (star ∷ (t ++ (lf ∷ []))))) (space-after t rest))
 
 -- ---- constraints
 
@@ -103,7 +109,8 @@ module _ (most : ℕ) where
     unfolding blanks
     ends = reads-ending (D.spaces (c .behind)) rest (spaces-blanks (c .behind) (D.ended ++ rest) refl)
 
-    reads-document-comparison : Reads comparison (comparisonText c) rest (comparisonOf (operatorFor (c .relation)) (D.integerValue (c .bound)))
+    reads-document-comparison : Reads comparison (comparisonText c) rest
+        (comparisonOf (operatorFor (c .relation)) (D.integerValue (c .bound)))
     reads-document-comparison =
         let n = D.integerText (c .bound) in
         let e = D.spaces (c .behind) ++ D.ended in
@@ -122,12 +129,15 @@ module _ (most : ℕ) where
         let y = comparisonText c in
         let p = operatorFor (c .relation) in
         let b = D.integerValue (c .bound) in
-        let front = relation-front (c .relation) ((D.spaces (c .gap) ++ (D.integerText (c .bound) ++ (D.spaces (c .behind) ++ D.ended))) ++ rest) in
+        let front = relation-front (c .relation)
+        ((D.spaces (c .gap) ++ (D.integerText (c .bound) ++ (D.spaces (c .behind) ++ D.ended))) ++ rest) in
         let r = rowOf (kindOf p) b (map termFor ts) in
         let small : sizes (map termFor ts) ≤ weightLimit = rw (sizes-of most ts) (g .1 .0 .weights) in
         let reads : Reads (constraint fromOne) (x ++ y) rest r =
         rw (bound-stays (c .relation) b) at
-        (reads-constraint fromOne x y (reads-document-sum most ts (y ++ rest) constraint-terms (rw append-assoc (front .0)) (rw append-assoc (front .1))) reads-document-comparison small
+        (reads-constraint fromOne x y
+        (reads-document-sum most ts (y ++ rest) constraint-terms (rw append-assoc (front .0))
+        (rw append-assoc (front .1))) reads-document-comparison small
         (rw (bound-stays (c .relation) b) (true-in b (g .1 .1)))) in
         taken-one (statement fromOne) inFile (statement-moves fromOne) (x ++ y) rest (row r)
         (constraint-statement fromOne (x ++ y) rest r (sum-begins most (c .sum .first) (c .sum .others) y rest (constraint-terms .0)) reads)
@@ -147,15 +157,18 @@ module _ (most : ℕ) where
         let x = D.sumText goalTerms in
         let r = rowOf objective (pos 0) (map termFor goalTerms) in
         let small : sizes (map termFor goalTerms) ≤ weightLimit = rw (sizes-of most goalTerms) (g .1 .weights) in
-        let clear = spaces-blanks (o .gap) ((x ++ D.ended) ++ rest) (begun-no-blank ((x ++ D.ended) ++ rest) (sum-begins most (o .sum .first) (o .sum .others) D.ended rest (goal-terms .0))) in
+        let clear = spaces-blanks (o .gap) ((x ++ D.ended) ++ rest)
+        (begun-no-blank ((x ++ D.ended) ++ rest) (sum-begins most (o .sum .first) (o .sum .others) D.ended rest (goal-terms .0))) in
         let reads : Reads (goal fromOne) ((minText ++ D.spaces (o .gap)) ++ (x ++ D.ended)) rest r =
-        reads-goal fromOne (D.spaces (o .gap)) x D.ended clear (reads-document-sum most goalTerms (D.ended ++ rest) goal-terms refl refl) (reads-ending [] rest refl) small in
+        reads-goal fromOne (D.spaces (o .gap)) x D.ended clear
+        (reads-document-sum most goalTerms (D.ended ++ rest) goal-terms refl refl) (reads-ending [] rest refl) small in
         taken-one (statement fromOne) inFile (statement-moves fromOne) ((minText ++ D.spaces (o .gap)) ++ (x ++ D.ended)) rest (row r)
-        (goal-statement fromOne (105 ∷ 110 ∷ 58 ∷ (D.spaces (o .gap) ++ (x ++ D.ended))) rest r reads)
+        (goal-statement fromOne (bytes "in:" ++ (D.spaces (o .gap) ++ (x ++ D.ended))) rest r reads)
 
   -- ---- all statements, one after the other
 
-  taken-statement : (x : D.Statement) (rest : List ℕ) → Fair most x → Taken (statement fromOne) inFile (D.statementText x) (λ at. lineAt at x ∷ []) rest
+  taken-statement : (x : D.Statement) (rest : List ℕ) → Fair most x
+      → Taken (statement fromOne) inFile (D.statementText x) (λ at. lineAt at x ∷ []) rest
   unfolding D.statementText
   taken-statement (D.comment t) rest g = taken-comment t rest g
   taken-statement (D.goal o) rest g = taken-goal o rest g
@@ -174,19 +187,22 @@ unfolding foundFrom linesFrom one
 found-lines at [] = refl
 found-lines at (x ∷ xs) = ap (λ (l : List Line). lineAt at x ∷ l) (found-lines (at + length (D.statementText x)) xs)
 
-pub document-statements : (most : ℕ) (xs : List D.Statement) → AllOf (Fair most) xs → statements fromOne (D.statementsText xs) ≡ items (linesFrom 0 xs) (length (D.statementsText xs))
+pub document-statements : (most : ℕ) (xs : List D.Statement) → AllOf (Fair most) xs
+    → statements fromOne (D.statementsText xs) ≡ items (linesFrom 0 xs) (length (D.statementsText xs))
 unfolding statements one
 document-statements most xs g =
     ap (all (statement fromOne) inFile) (sym (append-nil (D.statementsText xs)))
     ∙ taken-all (statement fromOne) inFile (statement-moves fromOne) (D.statementsText xs) [] (λ at. foundFrom D.statementText one at xs)
-    (taken-list (statement fromOne) inFile (statement-moves fromOne) D.statementText one (Fair most) (λ s. Unit {0}) (λ x rest q u. taken-statement most x rest q) (λ x rest q u. tt) xs [] g tt)
+    (taken-list (statement fromOne) inFile (statement-moves fromOne) D.statementText one (Fair most) (λ s. Unit {0})
+    (λ x rest q u. taken-statement most x rest q) (λ x rest q u. tt) xs [] g tt)
     (statement-moves fromOne .none)
     ∙ ap (λ (l : List Line). items l (length (D.statementsText xs))) (found-lines 0 xs)
 
 -- ---- what they say
 
 comment-text : (pre t rest : List ℕ)
-    → take (length (withoutCr t) - spaceAfter t) (drop (length pre + (1 + spaceAfter t)) (pre ++ (D.commentText t ++ rest))) ≡ withoutCr (withoutSpace t)
+    → take (length (withoutCr t) - spaceAfter t) (drop (length pre + (1 + spaceAfter t)) (pre ++ (D.commentText t ++ rest)))
+    ≡ withoutCr (withoutSpace t)
 unfolding D.commentText
 comment-text pre t rest = rw (drop-append-add pre (D.commentText t ++ rest) (1 + spaceAfter t)) (by t)
   where
@@ -194,27 +210,35 @@ comment-text pre t rest = rw (drop-append-add pre (D.commentText t ++ rest) (1 +
     spaced b t e = rw (e, space-longer t, append-assoc t (lf ∷ []) rest) (front-without t ((lf ∷ []) ++ rest))
 
     split : (b : ℕ) (t : List ℕ) (q : Bool) → eqb b space ≡ q
-        → take (length (withoutCr (b ∷ t)) - cond q 1 0) (drop (1 + cond q 1 0) (star ∷ b ∷ ((t ++ (lf ∷ [])) ++ rest))) ≡ withoutCr (cond q t (b ∷ t))
+        → take (length (withoutCr (b ∷ t)) - cond q 1 0) (drop (1 + cond q 1 0) (star ∷ b ∷ ((t ++ (lf ∷ [])) ++ rest)))
+        ≡ withoutCr (cond q t (b ∷ t))
     split b t true e = spaced b t (eqb-true b space e)
     split b t false e =
         let n : length (withoutCr (b ∷ t)) - 0 ≡ length (withoutCr (b ∷ t)) = omega arith in
         rw (n, append-assoc t (lf ∷ []) rest) (front-without (b ∷ t) ((lf ∷ []) ++ rest))
 
-    by : (t : List ℕ) → take (length (withoutCr t) - spaceAfter t) (drop (1 + spaceAfter t) ((star ∷ (t ++ (lf ∷ []))) ++ rest)) ≡ withoutCr (withoutSpace t)
+    by : (t : List ℕ)
+        → take (length (withoutCr t) - spaceAfter t) (drop (1 + spaceAfter t) ((star ∷ (t ++ (lf ∷ []))) ++ rest))
+        ≡ withoutCr (withoutSpace t)
     by [] = unfold withoutCr isAt in refl
     by (b ∷ t) = unfold isAt in split b t (eqb b space) refl
 
 module _ (most : ℕ) where
-  goal-says : (o : D.Objective) → Fair most (D.goal o) → (b : ℕ → Bool) → valueOf (byIndex b) (rowOf objective (pos 0) (map termFor (D.termsOf (o .sum)))) ≡ D.objectiveValue b o
+  goal-says : (o : D.Objective) → Fair most (D.goal o) → (b : ℕ → Bool)
+      → valueOf (byIndex b) (rowOf objective (pos 0) (map termFor (D.termsOf (o .sum)))) ≡ D.objectiveValue b o
   unfolding valueOf D.objectiveValue
-  goal-says o g b = +ℤ-idr (sumOf (byIndex b) (map termFor (D.termsOf (o .sum)))) ∙ sum-means most b (D.termsOf (o .sum)) (goal-terms most o [] g)
+  goal-says o g b =
+      +ℤ-idr (sumOf (byIndex b) (map termFor (D.termsOf (o .sum)))) ∙ sum-means most b (D.termsOf (o .sum)) (goal-terms most o [] g)
 
   constraint-says : (c : D.Constraint) → Fair most (D.constraint c) → (b : ℕ → Bool)
-      → holds (byIndex b) (rowOf (kindOf (operatorFor (c .relation))) (D.integerValue (c .bound)) (map termFor (D.termsOf (c .sum)))) ≡ D.satisfied b c
+      → holds (byIndex b) (rowOf (kindOf (operatorFor (c .relation))) (D.integerValue (c .bound)) (map termFor (D.termsOf (c .sum))))
+      ≡ D.satisfied b c
   unfolding holds D.satisfied
   constraint-says c g b = rw (sum-means most b (D.termsOf (c .sum)) (constraint-terms most c [] g)) (by (c .relation))
     where
-      by : (r : D.Relation) → holdsBy (kindOf (operatorFor r)) (D.sumValue b (D.termsOf (c .sum))) (D.integerValue (c .bound)) ≡ D.compared r (D.sumValue b (D.termsOf (c .sum))) (D.integerValue (c .bound))
+      by : (r : D.Relation)
+          → holdsBy (kindOf (operatorFor r)) (D.sumValue b (D.termsOf (c .sum))) (D.integerValue (c .bound))
+          ≡ D.compared r (D.sumValue b (D.termsOf (c .sum))) (D.integerValue (c .bound))
       by D.atLeast = refl
       by D.equal = refl
 
@@ -228,12 +252,14 @@ module _ (most : ℕ) where
   says pre rest (D.goal o) g = Read.goal refl (goal-says o g)
   says pre rest (D.constraint c) g = Read.constraint (no-goal (c .relation)) (constraint-says c g)
 
-  says-from : (pre : List ℕ) (at : ℕ) (xs : List D.Statement) → at ≡ length pre → AllOf (Fair most) xs → Paired (Says (pre ++ D.statementsText xs)) xs (linesFrom at xs)
+  says-from : (pre : List ℕ) (at : ℕ) (xs : List D.Statement) → at ≡ length pre → AllOf (Fair most) xs
+      → Paired (Says (pre ++ D.statementsText xs)) xs (linesFrom at xs)
   unfolding joined linesFrom
   says-from pre at [] e g = none
   says-from pre at (x ∷ xs) e g =
       let n : at + length (D.statementText x) ≡ length (pre ++ D.statementText x) = omega (arith, length-append pre (D.statementText x)) in
-      let first : Says (pre ++ (D.statementText x ++ D.statementsText xs)) x (lineAt at x) = rw e (says pre (D.statementsText xs) x (g .0)) in
+      let first : Says (pre ++ (D.statementText x ++ D.statementsText xs)) x (lineAt at x) =
+      rw e (says pre (D.statementsText xs) x (g .0)) in
       let later = says-from (pre ++ D.statementText x) (at + length (D.statementText x)) xs n (g .1) in
       next first (rw (append-assoc pre (D.statementText x) (D.statementsText xs)) at later)
 
@@ -241,19 +267,6 @@ module _ (most : ℕ) where
   statements-say xs g = says-from [] 0 xs refl g
 
 -- ---- a well-formed file within the limits has such statements
-
-module _ {B : Type 0} (P : B → Type 0) where
-  pub both-parts : (xs ys : List B) → AllOf P xs → AllOf P ys → AllOf P (xs ++ ys)
-  both-parts [] ys g h = h
-  both-parts (x ∷ xs) ys g h = (g .0, both-parts xs ys (g .1) h)
-
-  pub left-part : (xs ys : List B) → AllOf P (xs ++ ys) → AllOf P xs
-  left-part [] ys g = tt
-  left-part (x ∷ xs) ys g = (g .0, left-part xs ys (g .1))
-
-  pub right-part : (xs ys : List B) → AllOf P (xs ++ ys) → AllOf P ys
-  right-part [] ys g = g
-  right-part (x ∷ xs) ys g = right-part xs ys (g .1)
 
 pub lf-free : (t : List ℕ) → oneLine t ≡ true → AllOf D.NoLineEnd t
 unfolding oneLine
@@ -268,12 +281,13 @@ digits-free (d ∷ ds) = ((λ q. omega arith), digits-free ds)
 
 integer-free : (z : D.Integer) → AllOf D.NoLineEnd (D.integerText z)
 unfolding D.integerText oneLine
-integer-free z = both-parts D.NoLineEnd (D.signText (z .sign)) (digitBytes (z .first ∷ z .others)) (by (z .sign)) (digits-free (z .first ∷ z .others))
+integer-free z =
+    both-parts D.NoLineEnd (D.signText (z .sign)) (digitBytes (z .first ∷ z .others)) (by (z .sign)) (digits-free (z .first ∷ z .others))
   where
     by : (s : D.Sign) → AllOf D.NoLineEnd (D.signText s)
     by D.unsigned = tt
-    by D.plus = lf-free (43 ∷ []) refl
-    by D.minus = lf-free (45 ∷ []) refl
+    by D.plus = lf-free (bytes "+") refl
+    by D.minus = lf-free (bytes "-") refl
 
 pub header-free : (f : D.File) → AllOf D.NoLineEnd (D.headerOf f)
 unfolding D.headerOf oneLine
@@ -281,18 +295,16 @@ header-free f =
     let n = D.integerText (f .variables) in
     let m = D.integerText (f .constraints) in
     both-parts D.NoLineEnd D.variableWords (n ++ (D.constraintWords ++ m)) (lf-free D.variableWords refl)
-    (both-parts D.NoLineEnd n (D.constraintWords ++ m) (integer-free (f .variables)) (both-parts D.NoLineEnd D.constraintWords m (lf-free D.constraintWords refl) (integer-free (f .constraints))))
+    (both-parts D.NoLineEnd n (D.constraintWords ++ m) (integer-free (f .variables))
+    (both-parts D.NoLineEnd D.constraintWords m (lf-free D.constraintWords refl) (integer-free (f .constraints))))
 
 -- the greatest number of a variable
 abbrev pub mostOf : D.File → ℕ
-mostOf f = D.digitsValue 0 (f .variables .first ∷ f .variables .others)
+mostOf f = D.unsignedValue (f .variables)
 
 module _ (most : ℕ) where
-  fair-comments : (ts : List (List ℕ)) → AllOf (AllOf D.NoLineEnd) ts → AllOf (Fair most) (map D.comment ts)
-  fair-comments [] g = tt
-  fair-comments (t ∷ ts) g = (g .0, fair-comments ts (g .1))
-
-  fair-goals : (os : List D.Objective) → AllOf (λ o. AllOf (D.GoodTerm most) (D.termsOf (o .sum))) os → AllOf StatementWithin (map D.goal os) → AllOf (Fair most) (map D.goal os)
+  fair-goals : (os : List D.Objective) → AllOf (λ o. AllOf (D.GoodTerm most) (D.termsOf (o .sum))) os
+      → AllOf StatementWithin (map D.goal os) → AllOf (Fair most) (map D.goal os)
   fair-goals [] g h = tt
   fair-goals (o ∷ os) g h = ((g .0, h .0), fair-goals os (g .1) (h .1))
 
@@ -302,14 +314,22 @@ module _ (most : ℕ) where
   fair-body (D.goal o ∷ xs) g h = absurd (g .0)
   fair-body (D.constraint c ∷ xs) g h = ((g .0, h .0), fair-body xs (g .1) (h .1))
 
+-- what holds of the header, the comments, the objective and what stands behind it, holds of each statement of a file
+pub all-statements : (P : D.Statement → Type 0) (f : D.File) → P (D.comment (D.headerOf f)) → AllOf P (map D.comment (f .comments))
+    → AllOf P (map D.goal (f .objective)) → AllOf P (f .body) → AllOf P (D.statementsOf f)
+unfolding D.statementsOf
+all-statements P f h c g b = (
+  h,
+  both-parts P (map D.comment (f .comments)) (map D.goal (f .objective) ++ f .body) c
+      (both-parts P (map D.goal (f .objective)) (f .body) g b),
+)
+
 pub fair-file : (f : D.File) → D.WellFormed f → WithinLimits f → AllOf (Fair (mostOf f)) (D.statementsOf f)
 unfolding D.statementsOf
 fair-file f w l =
-    let cs = map D.comment (f .comments) in
     let os = map D.goal (f .objective) in
-    let within = right-part StatementWithin cs (os ++ f .body) (l .statements .1) in (
-      header-free f,
-      both-parts (Fair (mostOf f)) cs (os ++ f .body) (fair-comments (mostOf f) (f .comments) (w .comments))
-          (both-parts (Fair (mostOf f)) os (f .body) (fair-goals (mostOf f) (f .objective) (w .objective) (left-part StatementWithin os (f .body) within))
-          (fair-body (mostOf f) (f .body) (w .body) (right-part StatementWithin os (f .body) within))),
-    )
+    let within = right-part StatementWithin (map D.comment (f .comments)) (os ++ f .body) (l .statements .1) in
+    all-statements (Fair (mostOf f)) f (header-free f)
+    (each-mapped (Fair (mostOf f)) D.comment (f .comments) (w .comments))
+    (fair-goals (mostOf f) (f .objective) (w .objective) (left-part StatementWithin os (f .body) within))
+    (fair-body (mostOf f) (f .body) (w .body) (right-part StatementWithin os (f .body) within))

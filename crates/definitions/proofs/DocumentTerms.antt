@@ -56,7 +56,8 @@ digits-value n (d ∷ ds) =
 pub digits-leading : (ds rest : List ℕ) → AllOf D.IsDigit ds → leading rest ≡ [] → leading (digitBytes ds ++ rest) ≡ digitBytes ds
 digits-leading [] rest g e = e
 digits-leading (d ∷ ds) rest g e =
-    leading-digit (48 + d) (digitBytes ds ++ rest) (omega arith) (omega (arith, g .0)) ∙ ap (λ (l : List ℕ). (48 + d) ∷ l) (digits-leading ds rest (g .1) e)
+    leading-digit (48 + d) (digitBytes ds ++ rest) (omega arith) (omega (arith, g .0))
+    ∙ ap (λ (l : List ℕ). (48 + d) ∷ l) (digits-leading ds rest (g .1) e)
 
 -- ---- integers
 
@@ -65,7 +66,8 @@ module _ (z : D.Integer) (rest : List ℕ) (g : D.GoodInteger z) where
   ds = z .first ∷ z .others
 
   digit-front : (rest : List ℕ) → 0 < length (leading (digitBytes ds ++ rest))
-  digit-front rest = rw (leading-digit (48 + z .first) (digitBytes (z .others) ++ rest) (omega arith) (omega (arith, g .digits .0))) (omega arith)
+  digit-front rest =
+      rw (leading-digit (48 + z .first) (digitBytes (z .others) ++ rest) (omega arith) (omega (arith, g .digits .0))) (omega arith)
 
   pub integer-begins : beginsTerm (D.integerText z ++ rest) ≡ true
   unfolding D.integerText beginsTerm
@@ -86,7 +88,8 @@ module _ (z : D.Integer) (rest : List ℕ) (g : D.GoodInteger z) where
       worth : value (digitBytes ds) ≡ D.digitsValue 0 ds
       worth = digits-value 0 ds
 
-      by : (s : D.Sign) → inI64 (D.signedBy s (D.digitsValue 0 ds)) ≡ true → Reads number (D.signText s ++ digitBytes ds) rest (D.signedBy s (D.digitsValue 0 ds))
+      by : (s : D.Sign) → inI64 (D.signedBy s (D.digitsValue 0 ds)) ≡ true
+          → Reads number (D.signText s ++ digitBytes ds) rest (D.signedBy s (D.digitsValue 0 ds))
       by D.unsigned f = record {
         reads =
             number-unsigned (digitBytes ds ++ rest) (omega arith) (λ q. omega arith) (λ q. omega arith)
@@ -141,8 +144,10 @@ module _ (most : ℕ) (t : D.WeightedTerm) (g : Readable most t) where
       let l : List ℕ = 120 ∷ digitBytes vs in
       let b = D.spaces (suc (t .behind)) in
       let no-digit : leading ((D.spaces (suc (t .gap)) ++ (l ++ b)) ++ rest) ≡ [] = rw append-assoc (spaces-leading (t .gap) _) in
-      reads-weighted fromOne x (D.spaces (suc (t .gap))) l b (reads-integer (t .weight) _ (g .good .weight) (g .weight) no-digit) (before-variable (digitBytes vs ++ b) rest)
-      (reads-plain fromOne (digitBytes vs) (b ++ rest) (D.variableOf t - 1) (digits-leading vs (b ++ rest) (g .good .digits) (spaces-leading (t .behind) rest)) (omega arith) has-index)
+      reads-weighted fromOne x (D.spaces (suc (t .gap))) l b (reads-integer (t .weight) _ (g .good .weight) (g .weight) no-digit)
+      (before-variable (digitBytes vs ++ b) rest)
+      (reads-plain fromOne (digitBytes vs) (b ++ rest) (D.variableOf t - 1)
+      (digits-leading vs (b ++ rest) (g .good .digits) (spaces-leading (t .behind) rest)) (omega arith) has-index)
       (reads-gap b rest (spaces-blanks (suc (t .behind)) rest e))
 
 pub times-bit : (w : ℤ) (b : Bool) → cond b w (pos 0) ≡ w *ℤ D.bit b
@@ -150,14 +155,16 @@ times-bit w true = same w (w *ℤ pos 1) (omega (arith, up-mul w 1, dn-mul w 1))
 times-bit w false = sym (*ℤ-zero w)
 
 module _ (most : ℕ) where
-  pub sum-begins : (t : D.WeightedTerm) (ts : List D.WeightedTerm) (y rest : List ℕ) → Readable most t → beginsTerm ((D.sumText (t ∷ ts) ++ y) ++ rest) ≡ true
+  pub sum-begins : (t : D.WeightedTerm) (ts : List D.WeightedTerm) (y rest : List ℕ) → Readable most t
+      → beginsTerm ((D.sumText (t ∷ ts) ++ y) ++ rest) ≡ true
   unfolding joined
   sum-begins t ts y rest g = simp append-assoc (term-begins most t g (D.sumText ts ++ (y ++ rest)))
 
   pub reads-document-sum : (ts : List D.WeightedTerm) (rest : List ℕ) → AllOf (Readable most) ts → blanks rest ≡ 0 → beginsTerm rest ≡ false
       → Reads (sum fromOne) (D.sumText ts) rest (map termFor ts)
   reads-document-sum ts rest g e n =
-      reads-terms fromOne D.termText termFor (Readable most) (λ t s q. term-begins most t q s) (λ t s q h. reads-term most t q s h) ts rest g e n
+      reads-terms fromOne D.termText termFor (Readable most) (λ t s q. term-begins most t q s)
+      (λ t s q h. reads-term most t q s h) ts rest g e n
 
   -- ---- what they mean
 
@@ -174,16 +181,19 @@ module _ (most : ℕ) where
       let half : 2 * (v - 1) / 2 + 1 ≡ v = omega arith in
       rw (even, half)
 
-  pub sum-means : (b : ℕ → Bool) (ts : List D.WeightedTerm) → AllOf (Readable most) ts → sumOf (byIndex b) (map termFor ts) ≡ D.sumValue b ts
+  pub sum-means : (b : ℕ → Bool) (ts : List D.WeightedTerm) → AllOf (Readable most) ts
+      → sumOf (byIndex b) (map termFor ts) ≡ D.sumValue b ts
   unfolding sumOf D.sumValue
   sum-means b [] g = refl
   sum-means b (t ∷ ts) g =
       ap₂ (λ (x y : ℤ). x +ℤ y)
-      (ap (λ (c : Bool). cond c (D.integerValue (t .weight)) (pos 0)) (true-where b t (g .0 .good .low)) ∙ times-bit (D.integerValue (t .weight)) (b (D.variableOf t)))
+      (ap (λ (c : Bool). cond c (D.integerValue (t .weight)) (pos 0)) (true-where b t (g .0 .good .low))
+      ∙ times-bit (D.integerValue (t .weight)) (b (D.variableOf t)))
       (sum-means b ts (g .1))
 
   -- a sum within its limits has weights of 64 bits
-  pub readable-sum : (ts : List D.WeightedTerm) → AllOf (D.GoodTerm most) ts → AllOf IndexWithin ts → weightsOf ts ≤ weightLimit → AllOf (Readable most) ts
+  pub readable-sum : (ts : List D.WeightedTerm) → AllOf (D.GoodTerm most) ts → AllOf IndexWithin ts → weightsOf ts ≤ weightLimit
+      → AllOf (Readable most) ts
   unfolding weightsOf
   readable-sum [] g i h = tt
   readable-sum (t ∷ ts) g i h =

@@ -1,28 +1,27 @@
--- Which file of the document is a list of items in the document's order? Its text, but for the objective's line, is what is written, and it is well formed.
+-- Which file of the document is a list of items in the document's order? Its text, but for the objective's line, is what is
+-- written; it is well formed, and means what was asked for.
 use Prim.Native.Nat.{ℕ, _+_, _≤_}
 use mathlib.Core.Path.{_≡_, refl, sym, ap, ap₂, subst, _∙_}
 use mathlib.Core.Bool.{true}
 use mathlib.Core.List.{List, [], _∷_, _++_, map, append-assoc, append-nil}
+use native.Mathlib.Omega.{arith}
 use lib.ListN.{length}
 use Rattle.definitions.specs.Lists.{joined, AllOf}
 use Rattle.definitions.specs.Bytes.{minText, space}
 use Rattle.definitions.specs.Row.{Kind, objective, Row}
 use Rattle.definitions.specs.Write.{printed, apart, closed, remarkText, offsetText, textBy, rowText, Item, say, line, itemText}
-use Rattle.definitions.specs.Back.{rowsAsked, offsetOf}
+use Rattle.definitions.specs.Back.{rowsAsked, offsetOf, Paired, none, next}
 use Rattle.definitions.specs.Document as D
-use Rattle.definitions.specs.DocumentWritten.{forDocument, constraintsAsked, headerSaid, UpTo, GoalWithTerms, InOrder, beforeEnd, fromEnd}
+use Rattle.definitions.specs.DocumentWritten.{forDocument, constraintsAsked, headerSaid, UpTo, GoalWithTerms, InOrder}
+use Rattle.definitions.specs.DocumentWritten.{beforeEnd, fromEnd, constraintsIn, SatisfiedAlike, WrittenDocument}
+use Rattle.definitions.proofs.Truths.{never}
+use Rattle.definitions.proofs.Each.{left-part, right-part}
+use Rattle.definitions.proofs.Columns.{joined-append}
 use Rattle.definitions.proofs.Accepted.{WritableItem}
 use Rattle.definitions.proofs.MeansBack.{shownKind, printed-kind}
-use Rattle.definitions.proofs.DocumentStatements.{left-part, right-part}
 use Rattle.definitions.proofs.DocumentWrittenTerms.{unsignedFor, unsigned-text, unsigned-good, unsigned-worth}
-use Rattle.definitions.proofs.DocumentWrittenStatements.{remark-text, no-line-end}
-
--- ---- texts one after the other
-
-pub joined-both : {A B : Type 0} (f : B → List A) (xs ys : List B) → joined f (xs ++ ys) ≡ joined f xs ++ joined f ys
-unfolding joined
-joined-both f [] ys = refl
-joined-both f (x ∷ xs) ys = ap (λ l. f x ++ l) (joined-both f xs ys) ∙ sym (append-assoc (f x) (joined f xs) (joined f ys))
+use Rattle.definitions.proofs.DocumentWrittenStatements.{remark-text, no-line-end, Statements, body-of, Aimed, aimed-row}
+use Rattle.definitions.proofs.DocumentWrittenStatements.{aimed-value, with-offset}
 
 -- ---- the file
 
@@ -30,7 +29,13 @@ abbrev spacedTexts : List (List ℕ) → List (List ℕ)
 spacedTexts cs = map (λ (t : List ℕ). space ∷ t) cs
 
 unfoldable pub fileFor : ℕ → ℕ → List (List ℕ) → List D.Objective → List D.Statement → D.File
-fileFor n m cs gs xs = record { variables = unsignedFor n; constraints = unsignedFor m; comments = spacedTexts cs; objective = gs; body = xs }
+fileFor n m cs gs xs = record {
+  variables = unsignedFor n;
+  constraints = unsignedFor m;
+  comments = spacedTexts cs;
+  objective = gs;
+  body = xs;
+}
 
 comments-text : (cs : List (List ℕ)) → D.statementsText (map D.comment (spacedTexts cs)) ≡ joined (itemText forDocument) (map say cs)
 unfolding joined D.statementText itemText
@@ -51,16 +56,23 @@ module _ (n m : ℕ) (cs : List (List ℕ)) (gs : List D.Objective) (xs : List D
   unfolding D.commentText D.headerOf fileFor remarkText headerSaid
   header-text = rw (unsigned-text n, unsigned-text m)
 
-  pub file-text : D.fileText (fileFor n m cs gs xs) ≡ joined (itemText forDocument) (say (headerSaid n m) ∷ map say cs) ++ (joined D.objectiveText gs ++ D.statementsText xs)
+  pub file-text : D.fileText (fileFor n m cs gs xs)
+      ≡ joined (itemText forDocument) (say (headerSaid n m) ∷ map say cs) ++ (joined D.objectiveText gs ++ D.statementsText xs)
   unfolding D.fileText D.statementsOf fileFor joined D.statementText itemText
   file-text =
       let cs' = map D.comment (spacedTexts cs) in
       let gs' = map D.goal gs in
-      let behind : D.statementsText (cs' ++ (gs' ++ xs)) ≡ joined (itemText forDocument) (map say cs) ++ (joined D.objectiveText gs ++ D.statementsText xs) =
-      joined-both D.statementText cs' (gs' ++ xs) ∙ ap₂ (λ (x y : List ℕ). x ++ y) (comments-text cs) (joined-both D.statementText gs' xs ∙ ap (λ (l : List ℕ). l ++ D.statementsText xs) (goals-text gs)) in
-      ap₂ (λ (x y : List ℕ). x ++ y) header-text behind ∙ sym (append-assoc (remarkText (headerSaid n m)) (joined (itemText forDocument) (map say cs)) (joined D.objectiveText gs ++ D.statementsText xs))
+      let behind : D.statementsText (cs' ++ (gs' ++ xs))
+      ≡ joined (itemText forDocument) (map say cs) ++ (joined D.objectiveText gs ++ D.statementsText xs) =
+      joined-append D.statementText cs' (gs' ++ xs)
+      ∙ ap₂ (λ (x y : List ℕ). x ++ y) (comments-text cs)
+      (joined-append D.statementText gs' xs ∙ ap (λ (l : List ℕ). l ++ D.statementsText xs) (goals-text gs)) in
+      ap₂ (λ (x y : List ℕ). x ++ y) header-text behind
+      ∙ sym (append-assoc (remarkText (headerSaid n m)) (joined (itemText forDocument) (map say cs))
+      (joined D.objectiveText gs ++ D.statementsText xs))
 
-  pub file-good : D.constraintCount xs ≡ m → AllOf (WritableItem forDocument) (map say cs) → AllOf (λ g. AllOf (D.GoodTerm n) (D.termsOf (g .sum))) gs → length gs ≤ 1
+  pub file-good : D.constraintCount xs ≡ m → AllOf (WritableItem forDocument) (map say cs)
+      → AllOf (λ g. AllOf (D.GoodTerm n) (D.termsOf (g .sum))) gs → length gs ≤ 1
       → AllOf (D.GoodStatement n) xs → D.WellFormed (fileFor n m cs gs xs)
   unfolding fileFor
   file-good k w g l x = record {
@@ -90,7 +102,8 @@ unfolding constraintsAsked
 constraints-of-comments [] is = refl
 constraints-of-comments (t ∷ cs) is = constraints-of-comments cs is
 
-constraints-of-goals : (rs : List Row) (is : List Item) → AllOf GoalWithTerms rs → constraintsAsked (map line rs ++ is) ≡ constraintsAsked is
+constraints-of-goals : (rs : List Row) (is : List Item) → AllOf GoalWithTerms rs
+    → constraintsAsked (map line rs ++ is) ≡ constraintsAsked is
 unfolding constraintsAsked
 constraints-of-goals [] is g = refl
 constraints-of-goals (r ∷ rs) is g = rw (g .0 .kind) (constraints-of-goals rs is (g .1))
@@ -98,12 +111,15 @@ constraints-of-goals (r ∷ rs) is g = rw (g .0 .kind) (constraints-of-goals rs 
 module _ {is : List Item} (o : InOrder is) where
   rows-in-order : rowsAsked is ≡ o .objectives ++ rowsAsked (o .body)
   unfolding rowsAsked
-  rows-in-order = ap rowsAsked (o .order) ∙ rows-of-comments (o .comments) (map line (o .objectives) ++ o .body) ∙ rows-of-goals (o .objectives) (o .body)
+  rows-in-order =
+      ap rowsAsked (o .order) ∙ rows-of-comments (o .comments) (map line (o .objectives) ++ o .body)
+      ∙ rows-of-goals (o .objectives) (o .body)
 
   pub constraints-in-order : constraintsAsked is ≡ constraintsAsked (o .body)
   unfolding constraintsAsked
   constraints-in-order =
-      ap constraintsAsked (o .order) ∙ constraints-of-comments (o .comments) (map line (o .objectives) ++ o .body) ∙ constraints-of-goals (o .objectives) (o .body) (o .goals)
+      ap constraintsAsked (o .order) ∙ constraints-of-comments (o .comments) (map line (o .objectives) ++ o .body)
+      ∙ constraints-of-goals (o .objectives) (o .body) (o .goals)
 
   named-parts : AllOf (UpTo (o .variables)) (o .objectives ++ rowsAsked (o .body))
   named-parts = subst (AllOf (UpTo (o .variables))) rows-in-order (o .named)
@@ -124,12 +140,15 @@ module _ {is : List Item} (o : InOrder is) where
     all-comments = left-part P (map say (o .comments)) (map line (o .objectives) ++ o .body) behind-header
 
     pub all-body : AllOf P (o .body)
-    all-body = right-part P (map line (o .objectives)) (o .body) (right-part P (map say (o .comments)) (map line (o .objectives) ++ o .body) behind-header)
+    all-body =
+        right-part P (map line (o .objectives)) (o .body)
+        (right-part P (map say (o .comments)) (map line (o .objectives) ++ o .body) behind-header)
 
 -- ---- their text, and the text of the file
 
 goal-line : (r : Row) → r .kind ≡ objective
-    → itemText forDocument (line r) ≡ minText ++ (joined (apart 1) (printed true r .terms) ++ (closed ++ offsetText (offsetOf forDocument r)))
+    → itemText forDocument (line r)
+    ≡ minText ++ (joined (apart 1) (printed true r .terms) ++ (closed ++ offsetText (offsetOf forDocument r)))
 unfolding itemText rowText
 goal-line r k = ap (λ (x : Kind). textBy x 1 (printed true r .bound) (printed true r .terms)) (printed-kind true r ∙ ap shownKind k)
 
@@ -137,37 +156,108 @@ goal-line r k = ap (λ (x : Kind). textBy x 1 (printed true r .bound) (printed t
 parted : (a w x c z b : List ℕ) → a ++ (((w ++ (x ++ (c ++ z))) ++ []) ++ b) ≡ (a ++ (w ++ x)) ++ (c ++ (z ++ b))
 parted a w x c z b = simp (append-assoc, append-nil)
 
-parted-by-space : (a w x c z b : List ℕ) → a ++ (((w ++ (x ++ (space ∷ c))) ++ []) ++ (z ++ b)) ≡ (a ++ (w ++ x)) ++ (space ∷ (c ++ (z ++ b)))
+parted-by-space : (a w x c z b : List ℕ)
+    → a ++ (((w ++ (x ++ (space ∷ c))) ++ []) ++ (z ++ b)) ≡ (a ++ (w ++ x)) ++ (space ∷ (c ++ (z ++ b)))
 parted-by-space a w x c z b = simp (append-assoc, append-nil)
 
 module _ {is : List Item} (o : InOrder is) where
   abbrev front : List ℕ
   front = joined (itemText forDocument) (say (headerSaid (o .variables) (length (constraintsAsked is))) ∷ map say (o .comments))
 
-  text-in-order : joined (itemText forDocument) is ≡ front ++ (joined (itemText forDocument) (map line (o .objectives)) ++ joined (itemText forDocument) (o .body))
+  text-in-order : joined (itemText forDocument) is
+      ≡ front ++ (joined (itemText forDocument) (map line (o .objectives)) ++ joined (itemText forDocument) (o .body))
   text-in-order =
       ap (joined (itemText forDocument)) (o .order)
-      ∙ joined-both (itemText forDocument) (say (headerSaid (o .variables) (length (constraintsAsked is))) ∷ map say (o .comments)) (map line (o .objectives) ++ o .body)
-      ∙ ap (λ (l : List ℕ). front ++ l) (joined-both (itemText forDocument) (map line (o .objectives)) (o .body))
+      ∙ joined-append (itemText forDocument) (say (headerSaid (o .variables) (length (constraintsAsked is))) ∷ map say (o .comments))
+      (map line (o .objectives) ++ o .body)
+      ∙ ap (λ (l : List ℕ). front ++ l) (joined-append (itemText forDocument) (map line (o .objectives)) (o .body))
 
   abbrev pub fileOf : List D.Objective → List D.Statement → D.File
   fileOf gs xs = fileFor (o .variables) (length (constraintsAsked is)) (o .comments) gs xs
 
-  text-of : (gs : List D.Objective) (xs : List D.Statement) → D.fileText (fileOf gs xs) ≡ front ++ (joined D.objectiveText gs ++ D.statementsText xs)
+  text-of : (gs : List D.Objective) (xs : List D.Statement)
+      → D.fileText (fileOf gs xs) ≡ front ++ (joined D.objectiveText gs ++ D.statementsText xs)
   text-of gs xs = file-text (o .variables) (length (constraintsAsked is)) (o .comments) gs xs
 
   -- without an objective the two are the same
-  pub same-text : (xs : List D.Statement) → D.statementsText xs ≡ joined (itemText forDocument) (o .body) → o .objectives ≡ [] → D.fileText (fileOf [] xs) ≡ joined (itemText forDocument) is
+  pub same-text : (xs : List D.Statement) → D.statementsText xs ≡ joined (itemText forDocument) (o .body) → o .objectives ≡ []
+      → D.fileText (fileOf [] xs) ≡ joined (itemText forDocument) is
   unfolding joined
   same-text xs e k = text-of [] xs ∙ ap (λ (l : List ℕ). front ++ l) e ∙ sym (text-in-order ∙ rw k)
 
   -- with one they are parted before its `;`
-  pub written-parted : (r : Row) → r .kind ≡ objective → o .objectives ≡ r ∷ [] → joined (itemText forDocument) is ≡ beforeEnd o r ++ fromEnd o r
+  pub written-parted : (r : Row) → r .kind ≡ objective → o .objectives ≡ r ∷ []
+      → joined (itemText forDocument) is ≡ beforeEnd o r ++ fromEnd o r
   unfolding joined beforeEnd fromEnd
   written-parted r k e = text-in-order ∙ rw (e, goal-line r k) (parted front minText _ closed _ _)
 
-  pub document-parted : (r : Row) (g : D.Objective) (xs ys : List D.Statement) → D.objectiveText g ≡ minText ++ (joined (apart 1) (printed true r .terms) ++ (space ∷ closed))
-      → D.statementsText xs ≡ joined (itemText forDocument) (o .body) → D.statementsText ys ≡ offsetText (offsetOf forDocument r) ++ D.statementsText xs
+  pub document-parted : (r : Row) (g : D.Objective) (xs ys : List D.Statement)
+      → D.objectiveText g ≡ minText ++ (joined (apart 1) (printed true r .terms) ++ (space ∷ closed))
+      → D.statementsText xs ≡ joined (itemText forDocument) (o .body)
+      → D.statementsText ys ≡ offsetText (offsetOf forDocument r) ++ D.statementsText xs
       → D.fileText (fileOf (g ∷ []) ys) ≡ beforeEnd o r ++ (space ∷ fromEnd o r)
   unfolding joined beforeEnd fromEnd
-  document-parted r g xs ys e q h = text-of (g ∷ []) ys ∙ rw (e, h, q) (parted-by-space front minText _ closed (offsetText (offsetOf forDocument r)) (joined (itemText forDocument) (o .body)))
+  document-parted r g xs ys e q h =
+      text-of (g ∷ []) ys ∙ rw (e, h, q)
+      (parted-by-space front minText _ closed (offsetText (offsetOf forDocument r)) (joined (itemText forDocument) (o .body)))
+
+-- ---- so the file that is written of accepted items is the document's, or lacks one space
+
+module _ {is : List Item} (o : InOrder is) (w : AllOf (WritableItem forDocument) is) where
+  abbrev body : Statements (o .variables) (o .body)
+  body = body-of (o .variables) (o .body) (all-body o (WritableItem forDocument) w) (o .behind) (named-body o)
+
+  count : (xs : List D.Statement) → D.constraintCount xs ≡ D.constraintCount (body .statements)
+      → D.constraintCount xs ≡ length (constraintsAsked is)
+  count xs e = e ∙ body .count ∙ ap length (sym (constraints-in-order o))
+
+  alike : (xs : List D.Statement) → constraintsIn xs ≡ constraintsIn (body .statements)
+      → Paired SatisfiedAlike (constraintsAsked is) (constraintsIn xs)
+  alike xs e = rw (constraints-in-order o, e) (body .means)
+
+  without : o .objectives ≡ [] → WrittenDocument o (joined (itemText forDocument) is)
+  unfolding fileFor
+  without k =
+      let xs = body .statements in
+      record {
+        document = fileOf o [] xs;
+        good =
+            file-good (o .variables) _ (o .comments) [] xs (count xs refl) (all-comments o (WritableItem forDocument) w) tt
+            (omega arith) (body .good);
+        same = same-text o xs (body .text);
+        lacks = λ r e. never cc;
+        constraints = alike xs refl;
+        objectives = rw k none;
+      }
+
+  with-one : (r : Row) → o .objectives ≡ r ∷ [] → GoalWithTerms r → Aimed (o .variables) (printed true r)
+      → WrittenDocument o (joined (itemText forDocument) is)
+  unfolding fileFor
+  with-one r k goal aimed =
+      let off = with-offset (o .variables) (offsetOf forDocument r) (body .statements) in
+      let xs = off .statements in
+      record {
+        document = fileOf o (aimed .tree ∷ []) xs;
+        good =
+            file-good (o .variables) _ (o .comments) (aimed .tree ∷ []) xs (count xs (off .count))
+            (all-comments o (WritableItem forDocument) w) (aimed .good, tt) (omega arith) (off .good (body .good));
+        same = λ e. never cc;
+        lacks = λ q e.
+            let z : r ≡ q = cc in
+            rw (← z) (
+              written-parted o r (goal .kind) k,
+              document-parted o r (aimed .tree) (body .statements) xs (aimed .text) (body .text) (off .text),
+            );
+        constraints = alike xs (off .same);
+        objectives = rw k (next (aimed-value (o .variables) r aimed goal) none);
+      }
+
+  pub in-document : WrittenDocument o (joined (itemText forDocument) is)
+  in-document = by (o .objectives) refl
+    where
+      by : (rs : List Row) → o .objectives ≡ rs → WrittenDocument o (joined (itemText forDocument) is)
+      by [] k = without k
+      by (r ∷ []) k =
+          let goal = subst (AllOf GoalWithTerms) k (o .goals) .0 in
+          with-one r k goal (aimed-row (o .variables) r goal (subst (AllOf (UpTo (o .variables))) k (named-goals o) .0))
+      by (r ∷ q ∷ rs) k = absurd (omega (arith, o .single, ap length k))

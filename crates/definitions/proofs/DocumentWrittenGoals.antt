@@ -1,4 +1,5 @@
--- Has the document the line that is written for an objective? No: before the `;` the document has a space, and the line a digit, or the `:` where it has no terms.
+-- Has the document the line that is written for an objective? No: before the `;` the document has a space, and the line a digit, or
+-- the `:` where it has no terms.
 use Prim.Native.Nat.{ℕ, zero, suc, _+_, _/_, _%_, _≤_, _<_}
 use mathlib.Core.Path.{_≡_, refl, sym, ap, _∙_}
 use mathlib.Core.Bool.{Bool, true, false, cond}
@@ -59,7 +60,8 @@ last-of-goal g =
     let t = g .sum .first in
     let ts = g .sum .others in
     let d = lastOf 58 (D.spaces (g .gap)) in
-    last-both 58 (D.spaces (g .gap)) (D.termText t ++ D.sumText ts) ∙ last-both d (D.termText t) (D.sumText ts) ∙ rw (last-of-term d t) (last-of-sum ts)
+    last-both 58 (D.spaces (g .gap)) (D.termText t ++ D.sumText ts) ∙ last-both d (D.termText t) (D.sumText ts)
+    ∙ rw (last-of-term d t) (last-of-sum ts)
 
 -- ---- the line that is written
 
@@ -78,7 +80,9 @@ last-of-written-term first d t = rw (last-both space (integerText (t .weight)) (
     literal : 48 ≤ lastOf space (literalText first (t .code))
     literal = unfold literalText numberText in by (negated (t .code))
       where
-        by : (n : Bool) → 48 ≤ lastOf space (cond n (tilde ∷ letterX ∷ decimal (indexOf (t .code) + first)) (letterX ∷ decimal (indexOf (t .code) + first)))
+        by : (n : Bool)
+            → 48 ≤ lastOf space (cond n (tilde ∷ letterX ∷ decimal (indexOf (t .code) + first))
+            (letterX ∷ decimal (indexOf (t .code) + first)))
         by true = last-digit letterX (indexOf (t .code) + first)
         by false = last-digit letterX (indexOf (t .code) + first)
 
@@ -86,13 +90,15 @@ last-of-written-sum : (first d : ℕ) (ts : List Term) → 48 ≤ d → 48 ≤ l
 unfolding lastOf joined
 last-of-written-sum first d [] h = h
 last-of-written-sum first d (t ∷ ts) h =
-    rw (last-both d (apart first t) (joined (apart first) ts)) (last-of-written-sum first (lastOf d (apart first t)) ts (last-of-written-term first d t))
+    rw (last-both d (apart first t) (joined (apart first) ts))
+    (last-of-written-sum first (lastOf d (apart first t)) ts (last-of-written-term first d t))
 
 -- ---- so it is no objective of the document, with or without terms
 pub no-such-goal : (first : ℕ) (ts : List Term) (g : D.Objective) → D.objectiveText g ≡ minText ++ (joined (apart first) ts ++ closed) → ⊥
 unfolding lastOf
 no-such-goal first ts g e =
     let x = minText ++ joined (apart first) ts in
-    let same : goalFront g ≡ x = append-cancel-right (goalFront g) x closed (sym (goal-parts g) ∙ e ∙ sym (append-assoc minText (joined (apart first) ts) closed)) in
+    let same : goalFront g ≡ x =
+    append-cancel-right (goalFront g) x closed (sym (goal-parts g) ∙ e ∙ sym (append-assoc minText (joined (apart first) ts) closed)) in
     let last : lastOf 0 x ≡ space = ap (lastOf 0) (sym same) ∙ last-of-goal g in
     omega (arith, last-of-written-sum first 58 ts (omega arith))

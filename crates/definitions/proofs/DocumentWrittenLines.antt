@@ -1,5 +1,6 @@
--- Is a written text with an objective in it ever the text of a file of the document? No: each written comment, constraint and objective is one line, as each statement of the document
--- is, so the two go line by line, and no line of the document is that of a written objective.
+-- Is a written text with an objective in it ever the text of a file of the document? No: each written comment, constraint and
+-- objective is one line, as each statement of the document is, so the two go line by line, and no line of the document is that of a
+-- written objective.
 use Prim.Native.Nat.{ℕ, suc, _+_}
 use mathlib.Core.Path.{_≡_, refl, sym, ap, subst, _∙_}
 use mathlib.Core.Bool.{Bool, true, false, cond}
@@ -7,12 +8,13 @@ use mathlib.Core.List.{List, [], _∷_, _++_, append-assoc, head-eq-of-cons-eq}
 use native.Mathlib.Omega.{arith}
 use lib.IntN.{ℤ, pos, negsuc}
 use Rattle.definitions.specs.Lists.{joined, AllOf}
-use Rattle.definitions.specs.Bytes.{minText, space, less, equals, greater, tilde, letterX}
+use Rattle.definitions.specs.Bytes.{bytes, minText, space, tilde, letterX}
 use Rattle.definitions.specs.Number.{decimal, integerText}
 use Rattle.definitions.specs.Literal.{indexOf, negated}
 use Rattle.definitions.specs.Row.{Term, Kind, atLeast, atMost, equal, objective, Row}
 use Rattle.definitions.specs.Text.{beginsTerm}
-use Rattle.definitions.specs.Write.{printed, numberText, literalText, termText, spaced, apart, closed, remarkText, offsetText, comparisonText, textBy, rowText, Item, say, line, itemText, oneLine}
+use Rattle.definitions.specs.Write.{printed, numberText, literalText, termText, spaced, apart, closed, remarkText, offsetText}
+use Rattle.definitions.specs.Write.{comparisonText, textBy, rowText, Item, say, line, itemText, oneLine}
 use Rattle.definitions.specs.Back.{isGoal}
 use Rattle.definitions.specs.Document as D
 use Rattle.definitions.specs.DocumentWritten.{NoGoal}
@@ -23,7 +25,8 @@ use Rattle.definitions.proofs.ItemsBack.{goalText}
 use Rattle.definitions.proofs.MeansBack.{printed-sort}
 use Rattle.definitions.proofs.DocumentTerms.{integer-begins}
 use Rattle.definitions.proofs.DocumentStatements.{lf-free, digits-free, mostOf}
-use Rattle.definitions.proofs.DocumentLines.{Free, OneLine, free-both, line-behind, closed-line, min-free, Shaped, split-line, shaped-file}
+use Rattle.definitions.proofs.DocumentLines.{Free, OneLine, free-both, line-behind, closed-line, min-free, Shaped}
+use Rattle.definitions.proofs.DocumentLines.{split-line, shaped-file}
 use Rattle.definitions.proofs.DocumentWrittenTerms.{digits-of}
 use Rattle.definitions.proofs.DocumentWrittenGoals.{no-such-goal}
 
@@ -59,10 +62,13 @@ apart-free first t = ((λ q. omega arith), term-free first t)
 
 comparison-line : (x : List ℕ) (b : ℤ) → Free x → OneLine (comparisonText x b)
 unfolding comparisonText
-comparison-line x b g = line-behind x _ g (line-behind (space ∷ []) _ ((λ q. omega arith), tt) (line-behind (integerText b) closed (number-free b) closed-line))
+comparison-line x b g =
+    line-behind x _ g (line-behind (space ∷ []) _ ((λ q. omega arith), tt) (line-behind (integerText b) closed (number-free b) closed-line))
 
 goal-line : (first : ℕ) (ts : List Term) → OneLine (goalText first ts)
-goal-line first ts = line-behind minText _ min-free (line-behind (joined (apart first) ts) closed (joined-free (apart first) (apart-free first) ts) closed-line)
+goal-line first ts =
+    line-behind minText _ min-free
+    (line-behind (joined (apart first) ts) closed (joined-free (apart first) (apart-free first) ts) closed-line)
 
 remark-line : (t : List ℕ) → oneLine t ≡ true → OneLine (remarkText t)
 unfolding remarkText
@@ -77,12 +83,13 @@ row-line first r n = by (r .kind) n
     sum = joined (spaced first) (r .terms)
 
     compared : (x : List ℕ) → oneLine x ≡ true → OneLine (sum ++ comparisonText x (r .bound))
-    compared x e = line-behind sum _ (joined-free (spaced first) (spaced-free first) (r .terms)) (comparison-line x (r .bound) (lf-free x e))
+    compared x e =
+        line-behind sum _ (joined-free (spaced first) (spaced-free first) (r .terms)) (comparison-line x (r .bound) (lf-free x e))
 
     by : (k : Kind) → isGoal k ≡ false → OneLine (textBy k first (r .bound) (r .terms))
-    by atLeast n = compared (greater ∷ equals ∷ []) refl
-    by atMost n = compared (less ∷ equals ∷ []) refl
-    by equal n = compared (equals ∷ []) refl
+    by atLeast n = compared (bytes ">=") refl
+    by atMost n = compared (bytes "<=") refl
+    by equal n = compared (bytes "=") refl
     by objective n = absurd (one-truth true refl n)
 
 -- an objective, and behind it the line of its offset
@@ -103,7 +110,8 @@ no-such-line : (most : ℕ) (x : D.Statement) → Shaped most x → (first : ℕ
 unfolding D.statementText
 no-such-line most (D.comment t) g first ts e = let z : _≡_ {A = ℕ} 42 109 = unfold D.commentText in head-eq-of-cons-eq e in omega arith
 no-such-line most (D.goal g) u first ts e = no-such-goal first ts g e
-no-such-line most (D.constraint c) g first ts e = one-truth (beginsTerm (goalText first ts)) (ap beginsTerm (sym e) ∙ begun) (unfold beginsTerm in refl)
+no-such-line most (D.constraint c) g first ts e =
+    one-truth (beginsTerm (goalText first ts)) (ap beginsTerm (sym e) ∙ begun) (unfold beginsTerm in refl)
   where
     begun : beginsTerm (D.constraintText c) ≡ true
     begun = unfold D.constraintText joined D.termText in simp append-assoc (integer-begins (c .sum .first .weight) _ (g .terms .0 .weight))
@@ -112,7 +120,8 @@ no-such-line most (D.constraint c) g first ts e = one-truth (beginsTerm (goalTex
 
 module _ (most : ℕ) (m : Mode) where
   -- of statements and items
-  statements-differ : (is : List Item) (xs : List D.Statement) → AllOf (Shaped most) xs → AllOf (WritableItem m) is → (AllOf NoGoal is → ⊥) → D.statementsText xs ≡ joined (itemText m) is → ⊥
+  statements-differ : (is : List Item) (xs : List D.Statement) → AllOf (Shaped most) xs → AllOf (WritableItem m) is
+      → (AllOf NoGoal is → ⊥) → D.statementsText xs ≡ joined (itemText m) is → ⊥
   unfolding joined itemText
   statements-differ [] xs g w n e = n tt
   statements-differ (say t ∷ is) xs g w n e =
@@ -123,16 +132,22 @@ module _ (most : ℕ) (m : Mode) where
       shown : Row
       shown = printed (m .plain) r
 
-      by : (b : Bool) → isGoal (r .kind) ≡ b → ((ys : List D.Statement) → AllOf (Shaped most) ys → (AllOf NoGoal is → ⊥) → D.statementsText ys ≡ joined (itemText m) is → ⊥) → ⊥
+      by : (b : Bool) → isGoal (r .kind) ≡ b
+          → ((ys : List D.Statement) → AllOf (Shaped most) ys → (AllOf NoGoal is → ⊥) → D.statementsText ys ≡ joined (itemText m) is
+          → ⊥) → ⊥
       by false q ih =
-          let l = split-line most xs (rowText (m .first) shown) (joined (itemText m) is) g (row-line (m .first) shown (printed-sort (m .plain) r ∙ q)) e in
+          let l = split-line most xs (rowText (m .first) shown) (joined (itemText m) is) g
+          (row-line (m .first) shown (printed-sort (m .plain) r ∙ q)) e in
           ih (l .xs) (l .others) (λ k. n (q, k)) (l .behind)
       by true q ih =
           let x = goalText (m .first) (shown .terms) in
-          let parts = ap (λ (k : List ℕ). k ++ joined (itemText m) is) (goal-lines (m .first) shown (printed-sort (m .plain) r ∙ q)) ∙ append-assoc x (offsetText (shown .bound)) (joined (itemText m) is) in
-          let l = split-line most xs x (offsetText (shown .bound) ++ joined (itemText m) is) g (goal-line (m .first) (shown .terms)) (e ∙ parts) in
+          let parts = ap (λ (k : List ℕ). k ++ joined (itemText m) is) (goal-lines (m .first) shown (printed-sort (m .plain) r ∙ q))
+          ∙ append-assoc x (offsetText (shown .bound)) (joined (itemText m) is) in
+          let l = split-line most xs x (offsetText (shown .bound) ++ joined (itemText m) is) g (goal-line (m .first) (shown .terms))
+          (e ∙ parts) in
           no-such-line most (l .x) (l .shaped) (m .first) (shown .terms) (l .text)
 
-pub goal-not-in-document : (m : Mode) (is : List Item) → AllOf (WritableItem m) is → (AllOf NoGoal is → ⊥) → (f : D.File) → D.WellFormed f → D.fileText f ≡ joined (itemText m) is → ⊥
+pub goal-not-in-document : (m : Mode) (is : List Item) → AllOf (WritableItem m) is → (AllOf NoGoal is → ⊥) → (f : D.File)
+    → D.WellFormed f → D.fileText f ≡ joined (itemText m) is → ⊥
 unfolding D.fileText
 goal-not-in-document m is w n f g e = statements-differ (mostOf f) m is (D.statementsOf f) (shaped-file f g) w n e

@@ -1,11 +1,12 @@
--- Are the lines that are written for the document its statements? Constraints, comments and the line of an offset are, word for word; an objective's line lacks one space.
+-- Are the lines that are written for the document its statements? Constraints, comments and the line of an offset are, word for
+-- word; an objective's line lacks one space.
 use Prim.Native.Nat.{ℕ, suc, _+_, _%_, _≤_}
 use mathlib.Core.Path.{_≡_, refl, sym, ap, ap₂, _∙_}
 use mathlib.Core.Bool.{Bool, true, false}
 use mathlib.Core.List.{List, [], _∷_, _++_, map, append-assoc}
 use native.Mathlib.Omega.{arith}
 use borrow.Author.Tests.{ne-eqb, leb-true}
-use lib.ListN.{length, length-map}
+use lib.ListN.{length}
 use lib.IntN.{ℤ, _+ℤ_}
 use Rattle.definitions.specs.Lists.{joined, AllOf}
 use Rattle.definitions.specs.Bytes.{minText, space}
@@ -13,18 +14,23 @@ use Rattle.definitions.specs.Number.{integerText}
 use Rattle.definitions.specs.Literal.{indexOf, negated, plain}
 use Rattle.definitions.specs.Row.{Term, Kind, atLeast, atMost, equal, objective, Row, rowOf}
 use Rattle.definitions.specs.Meaning.{sumOf, holdsBy, holds, valueOf}
-use Rattle.definitions.specs.Write.{flipTerm, flippedBy, flipped, plainTerm, unnegated, printed, termText, spaced, apart, closed, remarkText, isZero, offsetText, comparisonText, textBy, rowText, Item, say, line, itemText, hasTerms, oneLine}
+use Rattle.definitions.specs.Write.{flipTerm, flippedBy, flipped, plainTerm, unnegated, printed, termText, spaced, apart}
+use Rattle.definitions.specs.Write.{closed, remarkText, isZero, offsetText, comparisonText, textBy, rowText, Item, say, line}
+use Rattle.definitions.specs.Write.{itemText, hasTerms, oneLine}
 use Rattle.definitions.specs.Back.{optionsOf, Paired, none, next, rowsAsked, isGoal, offsetOf}
 use Rattle.definitions.specs.Document as D
 use Rattle.definitions.specs.DocumentRead.{byIndex}
-use Rattle.definitions.specs.DocumentWritten.{forDocument, constraintsAsked, UpTo, GoalWithTerms, NoGoal, constraintsIn, SatisfiedAlike, ValuedAlike}
+use Rattle.definitions.specs.DocumentWritten.{forDocument, constraintsAsked, UpTo, GoalWithTerms, NoGoal, constraintsIn}
+use Rattle.definitions.specs.DocumentWritten.{SatisfiedAlike, ValuedAlike}
+use Rattle.definitions.proofs.CountsBack.{printed-terms}
 use Rattle.definitions.proofs.Truths.{one-truth}
 use Rattle.definitions.proofs.Meanings.{opposite-half, plain-half, printed-holds, printed-value}
 use Rattle.definitions.proofs.Accepted.{GoodRow, WritableItem, printed-good}
 use Rattle.definitions.proofs.ItemsBack.{offsetSaid, offset-line}
 use Rattle.definitions.proofs.MeansBack.{shownKind, printed-kind}
 use Rattle.definitions.proofs.DocumentStatements.{lf-free}
-use Rattle.definitions.proofs.DocumentWrittenTerms.{integerFor, integer-text, integer-good, integer-worth, Plain, treeOf, sum-text, sum-good, sum-means}
+use Rattle.definitions.proofs.DocumentWrittenTerms.{integerFor, integer-text, integer-good, integer-worth, Plain, treeOf}
+use Rattle.definitions.proofs.DocumentWrittenTerms.{sum-text, sum-good, sum-means}
 
 -- ---- the printed row has plain variables, and those of the row asked for
 
@@ -56,16 +62,6 @@ module _ (most : ℕ) where
       by equal = g
       by objective = g
 
-printed-length : (r : Row) → length (printed true r .terms) ≡ length (r .terms)
-unfolding printed unnegated flipped
-printed-length r = length-map (flippedBy (r .kind) (r .bound) (r .terms) .terms) plainTerm ∙ by (r .kind)
-  where
-    by : (k : Kind) → length (flippedBy k (r .bound) (r .terms) .terms) ≡ length (r .terms)
-    by atLeast = refl
-    by atMost = length-map (r .terms) flipTerm
-    by equal = refl
-    by objective = refl
-
 -- ---- comments
 
 pub remark-text : (t : List ℕ) → D.commentText (space ∷ t) ≡ remarkText t
@@ -85,7 +81,8 @@ spaces-moved first (t ∷ ts) y =
     let x = termText first t in
     let after : (x ++ (space ∷ [])) ++ joined (spaced first) ts ++ y ≡ x ++ (space ∷ (joined (spaced first) ts ++ y)) =
     append-assoc (x ++ (space ∷ [])) (joined (spaced first) ts) y ∙ append-assoc x (space ∷ []) (joined (spaced first) ts ++ y) in
-    ap (λ (l : List ℕ). space ∷ l) (append-assoc x (joined (apart first) ts) (space ∷ y) ∙ ap (λ (l : List ℕ). x ++ l) (spaces-moved first ts y) ∙ sym after)
+    ap (λ (l : List ℕ). space ∷ l)
+    (append-assoc x (joined (apart first) ts) (space ∷ y) ∙ ap (λ (l : List ℕ). x ++ l) (spaces-moved first ts y) ∙ sym after)
 
 -- ---- constraints
 
@@ -94,7 +91,13 @@ kindFor D.atLeast = atLeast
 kindFor D.equal = equal
 
 constraintFor : D.Relation → ℤ → Term → List Term → D.Constraint
-constraintFor k b t ts = record { sum = record { first = treeOf t; others = map treeOf ts }; relation = k; gap = 1; bound = integerFor b; behind = 0 }
+constraintFor k b t ts = record {
+  sum = record { first = treeOf t; others = map treeOf ts };
+  relation = k;
+  gap = 1;
+  bound = integerFor b;
+  behind = 0;
+}
 
 -- the constraint that the row r is
 record Told (most : ℕ) (r : Row) : Type 0 where
@@ -113,11 +116,14 @@ module _ (most : ℕ) where
     means = λ a. rw (sum-means most (t ∷ ts) g a, integer-worth b) (alike k a);
   }
     where
-      said : (k : D.Relation) → joined (spaced 1) (t ∷ ts) ++ (D.relationText k ++ (D.spaces 1 ++ (integerText b ++ (D.spaces 0 ++ D.ended)))) ≡ textBy (kindFor k) 1 b (t ∷ ts)
+      said : (k : D.Relation)
+          → joined (spaced 1) (t ∷ ts) ++ (D.relationText k ++ (D.spaces 1 ++ (integerText b ++ (D.spaces 0 ++ D.ended))))
+          ≡ textBy (kindFor k) 1 b (t ∷ ts)
       said D.atLeast = refl
       said D.equal = refl
 
-      alike : (k : D.Relation) (a : ℕ → Bool) → D.compared k (sumOf (byIndex a) (t ∷ ts)) b ≡ holdsBy (kindFor k) (sumOf (byIndex a) (t ∷ ts)) b
+      alike : (k : D.Relation) (a : ℕ → Bool)
+          → D.compared k (sumOf (byIndex a) (t ∷ ts)) b ≡ holdsBy (kindFor k) (sumOf (byIndex a) (t ∷ ts)) b
       alike D.atLeast a = refl
       alike D.equal a = refl
 
@@ -126,7 +132,8 @@ module _ (most : ℕ) where
   told-some k b (t ∷ ts) h g = told-terms k b t ts g
 
   -- a constraint as it is printed: at least or equal
-  told-row : (r : Row) → isGoal (r .kind) ≡ false → GoodRow (optionsOf forDocument) (printed true r) → UpTo most r → Told most (printed true r)
+  told-row : (r : Row) → isGoal (r .kind) ≡ false → GoodRow (optionsOf forDocument) (printed true r) → UpTo most r
+      → Told most (printed true r)
   told-row r n w g = by (r .kind) refl n
     where
       ts : List Term
@@ -139,7 +146,8 @@ module _ (most : ℕ) where
       at : (k : D.Relation) → printed true r .kind ≡ kindFor k → Told most (printed true r)
       at k e =
           let h : hasTerms (kindFor k) ts ≡ true = rw e at (w .some) in
-          rw (ap (λ (x : Kind). rowOf x (printed true r .bound) ts) (sym e)) at (told-some k (printed true r .bound) ts (some k h) (printed-plain most r g))
+          rw (ap (λ (x : Kind). rowOf x (printed true r .bound) ts) (sym e)) at
+          (told-some k (printed true r .bound) ts (some k h) (printed-plain most r g))
 
       by : (k : Kind) → r .kind ≡ k → isGoal k ≡ false → Told most (printed true r)
       by atLeast e h = at D.atLeast (printed-kind true r ∙ ap shownKind e)
@@ -200,7 +208,9 @@ module _ (most : ℕ) where
   }
 
   pub aimed-row : (r : Row) → GoalWithTerms r → UpTo most r → Aimed (printed true r)
-  aimed-row r k g = aimed-terms (printed true r .kind) (printed true r .bound) (printed true r .terms) (rw (printed-length r) (k .some)) (printed-plain most r g)
+  aimed-row r k g =
+      aimed-terms (printed true r .kind) (printed true r .bound) (printed true r .terms) (rw (printed-terms true r) (k .some))
+      (printed-plain most r g)
 
   pub aimed-value : (r : Row) (a : Aimed (printed true r)) → GoalWithTerms r → ValuedAlike r (a .tree)
   unfolding valueOf

@@ -1,4 +1,5 @@
--- Are numbers, terms and sums, as they are written from first index 1 in no-negated mode, texts of the document? Each is the text of a tree with the same value.
+-- Are numbers, terms and sums, as they are written from first index 1 in no-negated mode, texts of the document? Each is the text
+-- of a tree with the same value.
 use Prim.Native.Nat.{ℕ, suc, _+_, _*_, _/_, _%_, _≤_, _<_}
 use mathlib.Core.Path.{_≡_, refl, sym, ap, ap₂, _∙_}
 use mathlib.Core.Bool.{Bool, false, cond}
@@ -14,9 +15,9 @@ use Rattle.definitions.specs.Meaning.{isTrue, sumOf}
 use Rattle.definitions.specs.Write.{numberText, literalText, termText, spaced}
 use Rattle.definitions.specs.Document as D
 use Rattle.definitions.specs.DocumentRead.{byIndex}
+use Rattle.definitions.proofs.Each.{both-parts}
 use Rattle.definitions.proofs.Numbers.{decimal-ind, decimal-small, decimal-big}
 use Rattle.definitions.proofs.DocumentTerms.{digitBytes, times-bit}
-use Rattle.definitions.proofs.DocumentStatements.{both-parts}
 
 -- ---- digits
 
@@ -112,7 +113,8 @@ module _ (most : ℕ) (t : Term) (g : Plain most t) where
   unfolding D.termText D.spaces treeOf spaced termText literalText numberText
   term-text =
       let v = digits-of (indexOf (t .code) + 1) in
-      rw (g .plain, integer-text (t .weight), ← v .text) (sym (append-assoc (integerText (t .weight)) (space ∷ 120 ∷ digitBytes (v .first ∷ v .others)) (space ∷ [])))
+      rw (g .plain, integer-text (t .weight), ← v .text)
+      (sym (append-assoc (integerText (t .weight)) (space ∷ 120 ∷ digitBytes (v .first ∷ v .others)) (space ∷ [])))
 
   term-good : D.GoodTerm most (treeOf t)
   unfolding treeOf
@@ -123,7 +125,8 @@ module _ (most : ℕ) (t : Term) (g : Plain most t) where
     high = omega (arith, variable-of, g .within);
   }
 
-  term-means : (b : ℕ → Bool) → D.integerValue (treeOf t .weight) *ℤ D.bit (b (D.variableOf (treeOf t))) ≡ cond (isTrue (byIndex b) (t .code)) (t .weight) (pos 0)
+  term-means : (b : ℕ → Bool)
+      → D.integerValue (treeOf t .weight) *ℤ D.bit (b (D.variableOf (treeOf t))) ≡ cond (isTrue (byIndex b) (t .code)) (t .weight) (pos 0)
   unfolding isTrue
   term-means b =
       let w : D.integerValue (treeOf t .weight) ≡ t .weight = unfold treeOf in integer-worth (t .weight) in

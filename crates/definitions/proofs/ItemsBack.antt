@@ -9,14 +9,16 @@ use lib.Dec.{leb}
 use lib.ListN.{length}
 use lib.IntN.{ℤ, pos, negsuc}
 use Rattle.definitions.specs.Lists.{joined, AllOf}
-use Rattle.definitions.specs.Limits.{weightLimit}
-use Rattle.definitions.specs.Bytes.{minText, lf, cr, less, equals, greater, blanks}
+use Rattle.definitions.specs.Limits.{fileLimit, weightLimit}
+use Rattle.definitions.specs.Bytes.{bytes, minText, lf, cr, blanks}
 use Rattle.definitions.specs.Number.{decimal, integerText}
 use Rattle.definitions.specs.Walk.{items, all}
 use Rattle.definitions.specs.Row.{Term, Kind, atLeast, atMost, equal, objective, Row, rowOf, Line, comment, row, sizes}
 use Rattle.definitions.specs.Text.{beginsTerm, constraint, statement, inFile}
-use Rattle.definitions.specs.File.{statements}
-use Rattle.definitions.specs.Write.{printed, spaced, apart, closed, comparisonText, remarkText, offsetWords, isZero, offsetText, textBy, rowText, Item, say, line, itemText, hasTerms, oneLine}
+use Rattle.definitions.specs.Table.{accepted}
+use Rattle.definitions.specs.File.{linesOf, statements, file}
+use Rattle.definitions.specs.Write.{printed, spaced, apart, closed, comparisonText, remarkText, offsetWords, isZero}
+use Rattle.definitions.specs.Write.{offsetText, textBy, rowText, Item, say, line, itemText, hasTerms, oneLine}
 use Rattle.definitions.specs.Back.{optionsOf, withoutCr}
 use Rattle.definitions.specs.declared.Mode.{Mode}
 use Rattle.definitions.specs.declared.Options.{Options}
@@ -112,61 +114,74 @@ offset-whole z = calm-whole (offsetSaid z) (calm-offset z)
 
 module _ (o : Options) where
   taken-remark : (t rest : List ℕ) → oneLine t ≡ true → Taken (statement o) inFile (remarkText t) (λ at. remarkLine at t ∷ []) rest
-  taken-remark t rest e = taken-one (statement o) inFile (statement-moves o) (remarkText t) rest (comment 2 (length (withoutCr t)) (pos 0)) (remark-statement o t rest e)
+  taken-remark t rest e =
+      taken-one (statement o) inFile (statement-moves o) (remarkText t) rest (comment 2 (length (withoutCr t)) (pos 0))
+      (remark-statement o t rest e)
 
   taken-offset : (z : ℤ) (rest : List ℕ) → Taken (statement o) inFile (offsetText z) (λ at. offsetLines at z) rest
   unfolding offsetText
   taken-offset z rest = by (isZero z)
     where
-      by : (n : Bool) → Taken (statement o) inFile (cond n [] (remarkText (offsetSaid z))) (λ at. cond n [] (remarkLine at (offsetSaid z) ∷ [])) rest
+      by : (n : Bool)
+          → Taken (statement o) inFile (cond n [] (remarkText (offsetSaid z))) (λ at. cond n [] (remarkLine at (offsetSaid z) ∷ [])) rest
       by true = taken-none (statement o) inFile (statement-moves o) rest
       by false = taken-remark (offsetSaid z) rest (offset-line z)
 
-  constraint-begins : (ts : List Term) (y rest : List ℕ) → leb 1 (length ts) ≡ true → beginsTerm ((joined (spaced (o .first)) ts ++ y) ++ rest) ≡ true
+  constraint-begins : (ts : List Term) (y rest : List ℕ) → leb 1 (length ts) ≡ true
+      → beginsTerm ((joined (spaced (o .first)) ts ++ y) ++ rest) ≡ true
   unfolding joined
   constraint-begins [] y rest h = absurd (one-truth false h refl)
   constraint-begins (t ∷ ts) y rest h = rw (append-assoc _ y rest, append-assoc (spaced (o .first) t) _ _) (spaced-begins o t _)
 
   module _ (ts : List Term) (b : ℤ) (rest : List ℕ) where
-    taken-constraint : (k : Kind) (x : List ℕ) → leb 1 (length ts) ≡ true → Reads (constraint o) (joined (spaced (o .first)) ts ++ comparisonText x b) rest (rowOf k b ts)
+    taken-constraint : (k : Kind) (x : List ℕ) → leb 1 (length ts) ≡ true
+        → Reads (constraint o) (joined (spaced (o .first)) ts ++ comparisonText x b) rest (rowOf k b ts)
         → Taken (statement o) inFile (joined (spaced (o .first)) ts ++ comparisonText x b) (λ at. row (rowOf k b ts) ∷ []) rest
     taken-constraint k x h c =
         let y = joined (spaced (o .first)) ts ++ comparisonText x b in
-        taken-one (statement o) inFile (statement-moves o) y rest (row (rowOf k b ts)) (constraint-statement o y rest (rowOf k b ts) (constraint-begins ts (comparisonText x b) rest h) c)
+        taken-one (statement o) inFile (statement-moves o) y rest (row (rowOf k b ts))
+        (constraint-statement o y rest (rowOf k b ts) (constraint-begins ts (comparisonText x b) rest h) c)
 
-    taken-goal : AllOf (GoodTerm o) ts → sizes ts ≤ weightLimit → Taken (statement o) inFile (textBy objective (o .first) b ts) (λ at. linesBy objective (o .first) at b ts) rest
+    taken-goal : AllOf (GoodTerm (o .first)) ts → sizes ts ≤ weightLimit
+        → Taken (statement o) inFile (textBy objective (o .first) b ts) (λ at. linesBy objective (o .first) at b ts) rest
     taken-goal g h =
         let x = goalText (o .first) ts in
         let q = rowOf objective (pos 0) ts in
         rw (append-assoc (joined (apart (o .first)) ts) closed (offsetText b)) at
         (taken-both (statement o) inFile (statement-moves o) x (offsetText b) rest (λ at. row q ∷ []) (λ at. offsetLines at b)
         (taken-one (statement o) inFile (statement-moves o) x (offsetText b ++ rest) (row q)
-        (goal-statement o (105 ∷ 110 ∷ 58 ∷ (joined (apart (o .first)) ts ++ closed)) (offsetText b ++ rest) q (reads-written-goal o ts (offsetText b ++ rest) g h)))
+        (goal-statement o (bytes "in:" ++ (joined (apart (o .first)) ts ++ closed)) (offsetText b ++ rest) q
+        (reads-written-goal o ts (offsetText b ++ rest) g h)))
         (taken-offset b rest))
 
-  taken-row : (r : Row) (rest : List ℕ) → GoodRow o r → Taken (statement o) inFile (rowText (o .first) r) (λ at. rowLines (o .first) at r) rest
+  taken-row : (r : Row) (rest : List ℕ) → GoodRow o r
+      → Taken (statement o) inFile (rowText (o .first) r) (λ at. rowLines (o .first) at r) rest
   unfolding rowText beginsTerm blanks
   taken-row r rest g = by (r .kind) (g .some)
     where
       ts : List Term
       ts = r .terms
 
-      by : (k : Kind) → hasTerms k ts ≡ true → Taken (statement o) inFile (textBy k (o .first) (r .bound) ts) (λ at. linesBy k (o .first) at (r .bound) ts) rest
+      by : (k : Kind) → hasTerms k ts ≡ true
+          → Taken (statement o) inFile (textBy k (o .first) (r .bound) ts) (λ at. linesBy k (o .first) at (r .bound) ts) rest
       by atLeast h =
-          taken-constraint ts (r .bound) rest atLeast (greater ∷ equals ∷ []) h
-          (reads-written o GE (greater ∷ equals ∷ []) reads-at-least (λ y. refl) (λ y. refl) ts (r .bound) rest refl (g .each) (g .total) (g .fits))
+          taken-constraint ts (r .bound) rest atLeast (bytes ">=") h
+          (reads-written o GE (bytes ">=") reads-at-least (λ y. refl) (λ y. refl) ts (r .bound) rest refl (g .each)
+          (g .total) (g .fits))
       by atMost h =
-          taken-constraint ts (r .bound) rest atMost (less ∷ equals ∷ []) h
-          (reads-written o LE (less ∷ equals ∷ []) reads-at-most (λ y. refl) (λ y. refl) ts (r .bound) rest refl (g .each) (g .total) (g .fits))
+          taken-constraint ts (r .bound) rest atMost (bytes "<=") h
+          (reads-written o LE (bytes "<=") reads-at-most (λ y. refl) (λ y. refl) ts (r .bound) rest refl (g .each) (g .total)
+          (g .fits))
       by equal h =
-          taken-constraint ts (r .bound) rest equal (equals ∷ []) h
-          (reads-written o EQ (equals ∷ []) reads-equal (λ y. refl) (λ y. refl) ts (r .bound) rest refl (g .each) (g .total) (g .fits))
+          taken-constraint ts (r .bound) rest equal (bytes "=") h
+          (reads-written o EQ (bytes "=") reads-equal (λ y. refl) (λ y. refl) ts (r .bound) rest refl (g .each) (g .total) (g .fits))
       by objective h = taken-goal ts (r .bound) rest (g .each) (g .total)
 
 -- ---- all items, one after the other
 
 module _ (m : Mode) where
-  taken-item : (i : Item) (rest : List ℕ) → WritableItem m i → Taken (statement (optionsOf m)) inFile (itemText m i) (λ at. itemLines m at i) rest
+  taken-item : (i : Item) (rest : List ℕ) → WritableItem m i
+      → Taken (statement (optionsOf m)) inFile (itemText m i) (λ at. itemLines m at i) rest
   unfolding itemText
   taken-item (say t) rest w = taken-remark (optionsOf m) t rest w
   taken-item (line r) rest w = taken-row (optionsOf m) (printed (m .plain) r) rest (printed-good m r w)
@@ -174,11 +189,18 @@ module _ (m : Mode) where
   abbrev pub linesFrom : ℕ → List Item → List Line
   linesFrom at is = foundFrom (itemText m) (itemLines m) at is
 
-  pub written-statements : (is : List Item) → AllOf (WritableItem m) is → statements (optionsOf m) (joined (itemText m) is) ≡ items (linesFrom 0 is) (length (joined (itemText m) is))
+  pub written-statements : (is : List Item) → AllOf (WritableItem m) is
+      → statements (optionsOf m) (joined (itemText m) is) ≡ items (linesFrom 0 is) (length (joined (itemText m) is))
   unfolding statements
   written-statements is w =
       ap (all (statement (optionsOf m)) inFile) (sym (append-nil (joined (itemText m) is)))
       ∙ taken-all (statement (optionsOf m)) inFile (statement-moves (optionsOf m)) (joined (itemText m) is) [] (λ at. linesFrom at is)
-      (taken-list (statement (optionsOf m)) inFile (statement-moves (optionsOf m)) (itemText m) (itemLines m) (WritableItem m) (λ s. Unit {0})
+      (taken-list (statement (optionsOf m)) inFile (statement-moves (optionsOf m)) (itemText m) (itemLines m) (WritableItem m)
+      (λ s. Unit {0})
       (λ i rest w q. taken-item i rest w) (λ i rest w q. tt) is [] w tt)
       (statement-moves (optionsOf m) .none)
+
+  pub written-file : (is : List Item) → AllOf (WritableItem m) is → (s : List ℕ) → s ≡ joined (itemText m) is → length s ≤ fileLimit
+      → file (optionsOf m) s ≡ accepted (linesFrom 0 is)
+  unfolding file
+  written-file is g s w h = rw (le-leb (length s) fileLimit h) (rw w (ap linesOf (written-statements is g)))

@@ -1,4 +1,4 @@
--- What a walk finds in a text whose parts are known: each part is taken as its items, whatever stands behind it.
+-- What does a walk find in a text whose parts are known? Each part is taken as its items, whatever stands behind it.
 use Prim.Native.Nat.{ℕ, _+_}
 use mathlib.Core.Path.{_≡_, refl, sym, ap, _∙_}
 use mathlib.Core.List.{List, [], _∷_, _++_, append-assoc, append-nil}
@@ -37,7 +37,9 @@ module _ {A : Type 0} (step : List ℕ → Step A) (place : ℕ → A → A) (mo
 
   pub taken-none : (rest : List ℕ) → Taken step place [] (λ at. []) rest
   taken-none rest = record {
-    taken = λ at. let n : at ≡ at + 0 = omega arith in onto-none (walk step place rest 0 at) ∙ ap (λ (k : ℕ). onto [] (walk step place rest 0 k)) n;
+    taken = λ at.
+        let n : at ≡ at + 0 = omega arith in
+        onto-none (walk step place rest 0 at) ∙ ap (λ (k : ℕ). onto [] (walk step place rest 0 k)) n;
   }
 
   pub taken-both : (x y rest : List ℕ) (f g : ℕ → List A) → Taken step place x f (y ++ rest) → Taken step place y g rest
@@ -52,7 +54,8 @@ module _ {A : Type 0} (step : List ℕ → Step A) (place : ℕ → A → A) (mo
   }
 
   -- no item stands behind it
-  pub taken-all : (x rest : List ℕ) (f : ℕ → List A) → Taken step place x f rest → step rest ≡ stop → all step place (x ++ rest) ≡ items (f 0) (length x)
+  pub taken-all : (x rest : List ℕ) (f : ℕ → List A) → Taken step place x f rest → step rest ≡ stop
+      → all step place (x ++ rest) ≡ items (f 0) (length x)
   unfolding all
   taken-all x rest f p e =
       let n : 0 + length x ≡ length x = omega arith in
@@ -66,9 +69,11 @@ module _ {A : Type 0} (step : List ℕ → Step A) (place : ℕ → A → A) (mo
     pub front-list : (bs : List B) (rest : List ℕ) → AllOf Good bs → Front rest → Front (joined text bs ++ rest)
     unfolding joined
     front-list [] rest g h = h
-    front-list (b ∷ bs) rest g h = rw (append-assoc (text b) (joined text bs) rest) (front b (joined text bs ++ rest) (g .0) (front-list bs rest (g .1) h))
+    front-list (b ∷ bs) rest g h =
+        rw (append-assoc (text b) (joined text bs) rest) (front b (joined text bs ++ rest) (g .0) (front-list bs rest (g .1) h))
 
-    pub taken-list : (bs : List B) (rest : List ℕ) → AllOf Good bs → Front rest → Taken step place (joined text bs) (λ at. foundFrom text found at bs) rest
+    pub taken-list : (bs : List B) (rest : List ℕ) → AllOf Good bs → Front rest
+        → Taken step place (joined text bs) (λ at. foundFrom text found at bs) rest
     unfolding joined foundFrom
     taken-list [] rest g h = taken-none rest
     taken-list (b ∷ bs) rest g h =

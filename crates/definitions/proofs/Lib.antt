@@ -1,43 +1,63 @@
-pub mod Whole
+-- What follows from the definitions? The theorems, each in a file of its own, and the laws that they rest on.
+-- ---- the theorems
+pub mod ThereAndBack
+pub mod WholeFile
+pub mod SameAnswers
+pub mod OpbDocument
+pub mod WrittenDocument
+pub mod Needed
 pub mod TableP
+-- ---- tests, whole numbers, lists, answers
+pub mod Truths
+pub mod Whole
+pub mod Each
+pub mod Parts
+pub mod Answers
+-- ---- reading: walks, chains, numbers, statements
 pub mod Walks
 pub mod Chains
-pub mod Meanings
-pub mod Ones
 pub mod Texts
 pub mod Numbers
 pub mod Statements
-pub mod Parts
+pub mod FileAnswers
+-- ---- tables, and texts in outputs
+pub mod Columns
 pub mod Tables
 pub mod ReadRows
-pub mod Truths
+pub mod Puts
+-- ---- meaning
+pub mod Meanings
+pub mod Normals
+pub mod Ones
+-- ---- refusals
+pub mod Refusals
+pub mod ZeroAccepts
+-- ---- for ThereAndBack: what is written is read
 pub mod KnownTexts
 pub mod Readback
 pub mod RowsBack
 pub mod StatementsBack
 pub mod Accepted
+pub mod Asked
 pub mod ItemsBack
 pub mod CountsBack
 pub mod MeansBack
+-- ---- for WholeFile and SameAnswers: a file piece by piece, and step by step
 pub mod PieceByPiece
 pub mod Stops
-pub mod FileAnswers
+pub mod Steps
+-- ---- for OpbDocument
 pub mod DocumentTerms
 pub mod DocumentStatements
-pub mod ThereAndBack
-pub mod WholeFile
-pub mod OpbDocument
 pub mod DocumentSample
+-- ---- for WrittenDocument
+pub mod DocumentLines
 pub mod DocumentWrittenTerms
 pub mod DocumentWrittenStatements
 pub mod DocumentWrittenFile
 pub mod DocumentWrittenGoals
-pub mod DocumentLines
 pub mod DocumentWrittenLines
-pub mod WrittenDocument
 pub mod WrittenSample
-pub mod Needed
-pub mod Columns
-pub mod Normals
-pub mod Puts
-pub mod SameAnswers
+-- ---- for Needed
+pub mod OneConstraint
+pub mod OutsideDocument

@@ -1,4 +1,5 @@
--- Every assignment finds a row, its normal form and its printed form alike: whether it holds, and an objective's value.
+-- Do a row, its normal form and its printed form mean the same? Every assignment finds them alike: whether they hold, and an
+-- objective's value.
 use Prim.Native.Nat.{ℕ, suc, _+_, _-_, _/_, _%_}
 use mathlib.Core.Path.{_≡_, refl, sym, ap, ap₂, _∙_}
 use mathlib.Core.Bool.{Bool, true, false, cond, not, _&&_}
@@ -7,6 +8,7 @@ use native.Mathlib.Omega.{arith}
 use borrow.Author.Tests.{eq-eqb, ne-eqb, eqb-true, eqb-false}
 use lib.IntN.{ℤ, pos, negsuc, negℤ, _+ℤ_, _-ℤ_, +ℤ-idr, +ℤ-idl, +ℤ-invr, +ℤ-invl}
 use lib.Signed.{leZ}
+use Rattle.definitions.proofs.Truths.{never}
 use Rattle.definitions.proofs.Whole.{up, dn, sum-is, diff-is, same, le-same}
 use Rattle.definitions.specs.Literal.{negated, opposite, plain}
 use Rattle.definitions.specs.Row.{Term, weightOf, Kind, atLeast, atMost, equal, objective, Row}
@@ -136,7 +138,9 @@ counted-plain : (a : ℕ → Bool) (t : Term) → counted a (plainTerm t) ≡ co
 unfolding plainTerm fall
 counted-plain a t = rw (true-plain a (t .code)) (by (negated (t .code)) (isTrue a (t .code)))
   where
-    by : (n b : Bool) → cond (cond n (not b) b) (cond n (negℤ (t .weight)) (t .weight)) (pos 0) ≡ cond b (t .weight) (pos 0) +ℤ cond n (negℤ (t .weight)) (pos 0)
+    by : (n b : Bool)
+        → cond (cond n (not b) b) (cond n (negℤ (t .weight)) (t .weight)) (pos 0)
+        ≡ cond b (t .weight) (pos 0) +ℤ cond n (negℤ (t .weight)) (pos 0)
     by true true = sym (+ℤ-invr (t .weight))
     by true false = sym (+ℤ-idl (negℤ (t .weight)))
     by false true = sym (+ℤ-idr (t .weight))
@@ -153,14 +157,28 @@ unnegated-value a r k = value-shifted a plainTerm fall (counted-plain a) r k
 swap-sums : (p q x y w d : ℤ) → x +ℤ y ≡ d → p +ℤ q ≡ w → (p +ℤ x) +ℤ (q +ℤ y) ≡ w +ℤ d
 swap-sums p q x y w d e f =
     same ((p +ℤ x) +ℤ (q +ℤ y)) (w +ℤ d)
-    (omega (arith, sum-is (p +ℤ x) (q +ℤ y), sum-is p x, sum-is q y, sum-is w d, sum-is x y, sum-is p q, ap up e, ap dn e, ap up f, ap dn f))
+    (omega (
+      arith,
+      sum-is (p +ℤ x) (q +ℤ y),
+      sum-is p x,
+      sum-is q y,
+      sum-is w d,
+      sum-is x y,
+      sum-is p q,
+      ap up e,
+      ap dn e,
+      ap up f,
+      ap dn f,
+    ))
 
 sum-flipped : (a : ℕ → Bool) (ts : List Term) → sumOf a (map flipTerm ts) +ℤ sumOf a ts ≡ totalBy weightOf ts
 unfolding sumOf flipTerm totalBy
 sum-flipped a [] = refl
 sum-flipped a (t ∷ ts) = rw (true-opposite a (t .code)) (by (isTrue a (t .code)) (sum-flipped a ts))
   where
-    by : (b : Bool) → sumOf a (map flipTerm ts) +ℤ sumOf a ts ≡ totalBy weightOf ts → (cond (not b) (t .weight) (pos 0) +ℤ sumOf a (map flipTerm ts)) +ℤ (cond b (t .weight) (pos 0) +ℤ sumOf a ts) ≡ t .weight +ℤ totalBy weightOf ts
+    by : (b : Bool) → sumOf a (map flipTerm ts) +ℤ sumOf a ts ≡ totalBy weightOf ts
+        → (cond (not b) (t .weight) (pos 0) +ℤ sumOf a (map flipTerm ts)) +ℤ (cond b (t .weight) (pos 0) +ℤ sumOf a ts)
+        ≡ t .weight +ℤ totalBy weightOf ts
     by true e = swap-sums (pos 0) (t .weight) (sumOf a (map flipTerm ts)) (sumOf a ts) (t .weight) _ e (+ℤ-idl (t .weight))
     by false e = swap-sums (t .weight) (pos 0) (sumOf a (map flipTerm ts)) (sumOf a ts) (t .weight) _ e (+ℤ-idr (t .weight))
 
@@ -185,7 +203,7 @@ flipped-value a r k = cases (r .kind) k
   where
     cases : (k : Kind) → k ≡ objective → valueOf a (flippedBy k (r .bound) (r .terms)) ≡ valueOf a r
     cases atLeast e = refl
-    cases atMost e = let z : _≡_ {A = ℕ} 0 1 = cc in absurd (omega arith)
+    cases atMost e = never cc
     cases equal e = refl
     cases objective e = refl
 

@@ -4,7 +4,7 @@ use mathlib.Core.Path.{_≡_, refl, sym, ap, _∙_}
 use mathlib.Core.Bool.{Bool, true, false, cond}
 use mathlib.Core.List.{List, [], _∷_, _++_, append-assoc}
 use native.Mathlib.Omega.{arith}
-use lib.Dec.{leb, eqb}
+use lib.Dec.{eqb}
 use lib.ListN.{length, take, drop, length-append}
 use lib.Seq.{drop-append-add}
 use lib.IntN.{ℤ, pos, negsuc, _+ℤ_, +ℤ-idr}
@@ -13,34 +13,15 @@ use Rattle.definitions.specs.Bytes.{minText, lf, cr}
 use Rattle.definitions.specs.Row.{Term, Kind, atLeast, atMost, equal, objective, Row, rowOf, Line, row}
 use Rattle.definitions.specs.Meaning.{sumOf, holds, valueOf}
 use Rattle.definitions.specs.Normal.{shifted}
-use Rattle.definitions.specs.Table.{Outcome, refused, accepted, Table, entries, rowByRow}
-use Rattle.definitions.specs.Refusal.{Refusal}
-use Rattle.definitions.specs.Write.{flippedBy, flipped, plainTerm, fall, unnegated, printed, apart, closed, remarkText, isZero, offsetText, textBy, rowText, Item, say, line, itemText, writtenIn, textOf, writing}
-use Rattle.definitions.specs.Back.{Paired, none, next, rowsAsked, rowsIn, isGoal, Means, withoutCr, Back, remark, constraint, goal, goalAndOffset}
+use Rattle.definitions.specs.Write.{flippedBy, flipped, plainTerm, fall, unnegated, printed, apart, closed, remarkText}
+use Rattle.definitions.specs.Write.{isZero, offsetText, textBy, rowText, Item, say, line, itemText}
+use Rattle.definitions.specs.Back.{Paired, none, next, rowsAsked, rowsIn, isGoal, Means, withoutCr, Back, remark, constraint}
+use Rattle.definitions.specs.Back.{goal, goalAndOffset}
 use Rattle.definitions.specs.declared.Mode.{Mode}
 use Rattle.definitions.proofs.Meanings.{printed-holds, printed-value}
 use Rattle.definitions.proofs.KnownTexts.{foundFrom}
 use Rattle.definitions.proofs.Truths.{one-truth}
 use Rattle.definitions.proofs.ItemsBack.{goalText, offsetSaid, remarkLine, linesBy, rowLines, itemLines, offset-whole, linesFrom}
-
--- ---- what was accepted
-
-pub record Asked (m : Mode) (t : Table) (text s : List ℕ) : Type 0 where
-  pub items : List Item
-  pub asked : rowByRow (writtenIn m t text) 0 (entries t) ≡ accepted items
-  pub written : s ≡ joined (itemText m) items
-
-pub writing-asked : (m : Mode) (t : Table) (text : List ℕ) (room : ℕ) (s : List ℕ) → writing m t text room ≡ accepted s → Asked m t text s
-unfolding writing
-writing-asked m t text room s e = by (rowByRow (writtenIn m t text) 0 (entries t)) refl e
-  where
-    fitted : (b : Bool) (x : List ℕ) (r : Refusal) → cond b (accepted x) (refused r) ≡ accepted s → s ≡ x
-    fitted true x r q = cc
-    fitted false x r q = let z : _≡_ {A = ℕ} 0 1 = cc in absurd (omega arith)
-
-    by : (o : Outcome (List Item)) → rowByRow (writtenIn m t text) 0 (entries t) ≡ o → textOf m room o ≡ accepted s → Asked m t text s
-    by (refused r) p q = let z : _≡_ {A = ℕ} 0 1 = cc in absurd (omega arith)
-    by (accepted is) p q = record { items = is; asked = p; written = fitted (leb (length (joined (itemText m) is)) room) (joined (itemText m) is) _ q }
 
 -- ---- the text of a comment in the file
 
@@ -56,7 +37,8 @@ front-without (b ∷ c ∷ t) y = ap (λ (l : List ℕ). b ∷ l) (front-without
 
 remark-text : (pre t rest : List ℕ) → take (length (withoutCr t)) (drop (length pre + 2) (pre ++ (remarkText t ++ rest))) ≡ withoutCr t
 unfolding remarkText
-remark-text pre t rest = rw (drop-append-add pre (remarkText t ++ rest) 2) (rw (append-assoc t (lf ∷ []) rest) (front-without t ((lf ∷ []) ++ rest)))
+remark-text pre t rest =
+    rw (drop-append-add pre (remarkText t ++ rest) 2) (rw (append-assoc t (lf ∷ []) rest) (front-without t ((lf ∷ []) ++ rest)))
 
 -- ---- rows
 
@@ -70,7 +52,8 @@ pub printed-kind : (noNegated : Bool) (r : Row) → printed noNegated r .kind �
 unfolding printed unnegated flipped
 printed-kind noNegated r = by noNegated (r .kind)
   where
-    by : (m : Bool) (k : Kind) → cond m (shifted plainTerm fall (flippedBy k (r .bound) (r .terms))) (flippedBy k (r .bound) (r .terms)) .kind ≡ shownKind k
+    by : (m : Bool) (k : Kind)
+        → cond m (shifted plainTerm fall (flippedBy k (r .bound) (r .terms))) (flippedBy k (r .bound) (r .terms)) .kind ≡ shownKind k
     by true atLeast = refl
     by true atMost = refl
     by true equal = refl
@@ -130,16 +113,21 @@ module _ (m : Mode) (r : Row) where
 
   -- the offset's line, behind the text of the objective
   offset-text : (pre rest : List ℕ) (z : ℤ) (ts : List Term)
-      → take (length (withoutCr (offsetSaid z))) (drop (length pre + length (goalText (m .first) ts) + 2) (pre ++ ((minText ++ (joined (apart (m .first)) ts ++ (closed ++ remarkText (offsetSaid z)))) ++ rest)))
+      → take (length (withoutCr (offsetSaid z)))
+      (drop (length pre + length (goalText (m .first) ts) + 2)
+      (pre ++ ((minText ++ (joined (apart (m .first)) ts ++ (closed ++ remarkText (offsetSaid z)))) ++ rest)))
       ≡ offsetSaid z
   offset-text pre rest z ts =
       let g = goalText (m .first) ts in
       let n : length pre + length g ≡ length (pre ++ g) = sym (length-append pre g) in
-      let same : pre ++ ((minText ++ (joined (apart (m .first)) ts ++ (closed ++ remarkText (offsetSaid z)))) ++ rest) ≡ (pre ++ g) ++ (remarkText (offsetSaid z) ++ rest) = simp append-assoc in
+      let same : pre ++ ((minText ++ (joined (apart (m .first)) ts ++ (closed ++ remarkText (offsetSaid z)))) ++ rest)
+      ≡ (pre ++ g) ++ (remarkText (offsetSaid z) ++ rest) =
+      simp append-assoc in
       rw (n, same) (remark-text (pre ++ g) (offsetSaid z) rest ∙ offset-whole z)
 
   back-goal : (pre rest : List ℕ) → shown .kind ≡ objective
-      → Back m (pre ++ (textBy objective (m .first) (shown .bound) (shown .terms) ++ rest)) (line r) (linesBy objective (m .first) (length pre) (shown .bound) (shown .terms))
+      → Back m (pre ++ (textBy objective (m .first) (shown .bound) (shown .terms) ++ rest)) (line r)
+      (linesBy objective (m .first) (length pre) (shown .bound) (shown .terms))
   unfolding offsetText
   back-goal pre rest e = by (isZero (shown .bound)) refl
     where
@@ -147,8 +135,11 @@ module _ (m : Mode) (r : Row) where
       is = sym (printed-sort (m .plain) r) ∙ ap isGoal e
 
       by : (n : Bool) → isZero (shown .bound) ≡ n
-          → Back m (pre ++ ((minText ++ (joined (apart (m .first)) (shown .terms) ++ (closed ++ cond n [] (remarkText (offsetSaid (shown .bound)))))) ++ rest)) (line r)
-          (row (rowOf objective (pos 0) (shown .terms)) ∷ cond n [] (remarkLine (length pre + length (goalText (m .first) (shown .terms))) (offsetSaid (shown .bound)) ∷ []))
+          → Back m (pre ++ ((minText
+          ++ (joined (apart (m .first)) (shown .terms) ++ (closed ++ cond n [] (remarkText (offsetSaid (shown .bound)))))) ++ rest))
+          (line r)
+          (row (rowOf objective (pos 0) (shown .terms))
+          ∷ cond n [] (remarkLine (length pre + length (goalText (m .first) (shown .terms))) (offsetSaid (shown .bound)) ∷ []))
       by true q = goal is (goal-means e) (zero-is (shown .bound) q)
       by false q = goalAndOffset is (goal-means e) (zero-is-not (shown .bound) q) (offset-text pre rest (shown .bound) (shown .terms))
 
@@ -159,7 +150,9 @@ module _ (m : Mode) (r : Row) where
       plain : (k : Kind) → shown .kind ≡ k → isGoal k ≡ false → isGoal (r .kind) ≡ false
       plain k e n = sym (printed-sort (m .plain) r) ∙ ap isGoal e ∙ n
 
-      by : (k : Kind) → shown .kind ≡ k → Back m (pre ++ (textBy k (m .first) (shown .bound) (shown .terms) ++ rest)) (line r) (linesBy k (m .first) (length pre) (shown .bound) (shown .terms))
+      by : (k : Kind) → shown .kind ≡ k
+          → Back m (pre ++ (textBy k (m .first) (shown .bound) (shown .terms) ++ rest)) (line r)
+          (linesBy k (m .first) (length pre) (shown .bound) (shown .terms))
       by atLeast e = constraint (plain atLeast e refl) (constraint-means atLeast e refl)
       by atMost e = constraint (plain atMost e refl) (constraint-means atMost e refl)
       by equal e = constraint (plain equal e refl) (constraint-means equal e refl)
@@ -183,17 +176,19 @@ module _ (m : Mode) where
   groups-lines at [] = refl
   groups-lines at (i ∷ is) = ap (λ (l : List Line). itemLines m at i ++ l) (groups-lines (at + length (itemText m i)) is)
 
-  back-from : (pre : List ℕ) (at : ℕ) (is : List Item) → at ≡ length pre → Paired (Back m (pre ++ joined (itemText m) is)) is (groupsFrom at is)
+  back-from : (pre : List ℕ) (at : ℕ) (is : List Item) → at ≡ length pre
+      → Paired (Back m (pre ++ joined (itemText m) is)) is (groupsFrom at is)
   unfolding joined groupsFrom
   back-from pre at [] e = none
   back-from pre at (i ∷ is) e =
       let n : at + length (itemText m i) ≡ length (pre ++ itemText m i) = omega (arith, length-append pre (itemText m i)) in
-      let first : Back m (pre ++ (itemText m i ++ joined (itemText m) is)) i (itemLines m at i) = rw e (back-item pre (joined (itemText m) is) i) in
+      let first : Back m (pre ++ (itemText m i ++ joined (itemText m) is)) i (itemLines m at i) =
+      rw e (back-item pre (joined (itemText m) is) i) in
       let later = back-from (pre ++ itemText m i) (at + length (itemText m i)) is n in
       next first (rw (append-assoc pre (itemText m i) (joined (itemText m) is)) at later)
 
-  pub items-back : (is : List Item) → Paired (Back m (joined (itemText m) is)) is (groupsFrom 0 is)
-  items-back is = back-from [] 0 is refl
+  pub items-back : (is : List Item) (s : List ℕ) → s ≡ joined (itemText m) is → Paired (Back m s) is (groupsFrom 0 is)
+  items-back is s w = rw w (back-from [] 0 is refl)
 
 -- ---- so the rows come back one for one
 

@@ -1,9 +1,9 @@
--- Normal rows: no weight below 0, the variables and the sizes of the weights as they were, and nothing left for normalising to change.
+-- What has a normal row? No weight below 0, the variables and the sizes of the weights as they were, and nothing left for
+-- normalising to change.
 use Prim.Native.Nat.{ℕ, _+_}
 use mathlib.Core.Path.{_≡_, refl, ap, ap₂, _∙_}
 use mathlib.Core.Bool.{Bool, true, false, cond, _&&_}
 use mathlib.Core.List.{List, [], _∷_, map}
-use native.Mathlib.Omega.{arith}
 use lib.Dec.{leb}
 use lib.IntN.{ℤ, pos, negsuc, natAbs, _+ℤ_, +ℤ-idr}
 use lib.Signed.{nonNeg}
@@ -14,6 +14,7 @@ use Rattle.definitions.specs.Row.{Term, Kind, atLeast, atMost, equal, ob
 use Rattle.definitions.specs.Table.{indexed}
 use Rattle.definitions.specs.Normal.{moved, totalBy, normalBy, normalTerm, rise, normal, normalLine}
 use Rattle.definitions.specs.Write.{weighs}
+use Rattle.definitions.proofs.Truths.{never}
 use Rattle.definitions.proofs.Meanings.{opposite-half}
 
 -- ---- terms
@@ -84,7 +85,8 @@ pub normal-twice : (r : Row) → normal (normal r) ≡ normal r
 unfolding normal
 normal-twice r =
     let b = moved (r .kind) (r .bound) (totalBy rise (r .terms)) in
-    let p : moved (r .kind) b (totalBy rise (map normalTerm (r .terms))) ≡ b = ap (moved (r .kind) b) (no-rise (r .terms)) ∙ moved-none (r .kind) b in
+    let p : moved (r .kind) b (totalBy rise (map normalTerm (r .terms))) ≡ b =
+    ap (moved (r .kind) b) (no-rise (r .terms)) ∙ moved-none (r .kind) b in
     let q = terms-twice (r .terms) in
     λ x. rowOf (r .kind) (p x) (q x)
 
@@ -96,6 +98,7 @@ normal-line-twice (row r) y e = by (leb (sizes (r .terms)) weightLimit && inI64 
     sizes-kept : sizes (normal r .terms) ≡ sizes (r .terms)
     sizes-kept = unfold normal in terms-sizes (r .terms)
 
-    by : (b : Bool) → leb (sizes (r .terms)) weightLimit && inI64 (normal r .bound) ≡ b → cond b (accept (row (normal r))) (refuse 8) ≡ accept y → normalLine y ≡ accept y
+    by : (b : Bool) → leb (sizes (r .terms)) weightLimit && inI64 (normal r .bound) ≡ b
+        → cond b (accept (row (normal r))) (refuse 8) ≡ accept y → normalLine y ≡ accept y
     by true p e = let z : y ≡ row (normal r) = cc in rw (z, normal-twice r, sizes-kept, p)
-    by false p e = let z : _≡_ {A = ℕ} 0 1 = cc in absurd (omega arith)
+    by false p e = never cc

@@ -1,5 +1,5 @@
--- Laws of numbers in text: the digits at the front and their value, the sizes that 64 signed bits hold, what `number` answers, the digits of a number, and that
--- what is printed reads back.
+-- What do numbers in text say? The digits at the front and their value, the sizes that 64 signed bits hold, what `number` answers,
+-- the digits of a number, and that what is printed reads back.
 use mathlib.Core.Path.{_≡_, refl, sym, _∙_}
 use mathlib.Core.Bool.{Bool, true, false, cond}
 use mathlib.Core.List.{List, [], _∷_, _++_, append-assoc, append-nil}
@@ -19,7 +19,9 @@ use Rattle.definitions.specs.Limits.{inI64}
 use Rattle.definitions.specs.Bytes.{isDigit, plus, minus}
 use Rattle.definitions.specs.Reader.{Got, none, got}
 use Rattle.definitions.specs.Number.{leading, valueOn, value, signed, ended, number, decimalIn, decimal, integerText}
-use Rattle.definitions.proofs.Whole.{abs-is, one-side, up-pos, dn-pos, up-neg, dn-neg, in-up, in-dn, is-in, in-true, true-in, over-up, over-dn}
+use Rattle.definitions.proofs.Truths.{never, cond-same}
+use Rattle.definitions.proofs.Whole.{abs-is, one-side, up-pos, dn-pos, up-neg, dn-neg, in-up, in-dn, is-in, in-true, true-in}
+use Rattle.definitions.proofs.Whole.{over-up, over-dn}
 
 -- ---- the digits at the front, and their value
 
@@ -99,7 +101,8 @@ unfolding number
 number-plus [] h e = absurd (omega arith)
 number-plus (b ∷ s) h e = rw e
 
-pub number-unsigned : (s : List ℕ) → 0 < length s → (getD s 0 0 ≡ minus → ⊥) → (getD s 0 0 ≡ plus → ⊥) → number s ≡ ended false 0 (leading s)
+pub number-unsigned : (s : List ℕ) → 0 < length s → (getD s 0 0 ≡ minus → ⊥) → (getD s 0 0 ≡ plus → ⊥)
+    → number s ≡ ended false 0 (leading s)
 unfolding number
 number-unsigned [] h e f = absurd (omega arith)
 number-unsigned (b ∷ s) h e f = rw (ne-eqb b minus e, ne-eqb b plus f)
@@ -110,11 +113,7 @@ ended-none negative k ds e = rw e
 
 pub ended-beyond : (negative : Bool) (k : ℕ) (ds : List ℕ) → inI64 (signed negative (value ds)) ≡ false → ended negative k ds ≡ none 3
 unfolding ended
-ended-beyond negative k ds e = rw e (cases (eqb (length ds) 0))
-  where
-    cases : (b : Bool) → _≡_ {A = Got ℤ} (cond b (none 3) (none 3)) (none 3)
-    cases true = refl
-    cases false = refl
+ended-beyond negative k ds e = rw e (cond-same (eqb (length ds) 0) (none 3))
 
 pub ended-got : (negative : Bool) (k : ℕ) (ds : List ℕ) → (length ds ≡ 0 → ⊥) → inI64 (signed negative (value ds)) ≡ true
     → ended negative k ds ≡ got (signed negative (value ds)) (k + length ds)
@@ -149,7 +148,7 @@ module _ {ℓ} (P : Got ℤ → Type ℓ) where
       cases false false = at false 0 (b ∷ s) (omega arith)
 
 none-is-no-got {ℓ} : {X : Type ℓ} {A : Type 0} {e : ℕ} {a : A} {n : ℕ} → none e ≡ got a n → X
-none-is-no-got p = let q : _≡_ {A = ℕ} 0 1 = cc in absurd (omega arith)
+none-is-no-got p = never cc
 
 pub number-within : (s : List ℕ) {z : ℤ} {n : ℕ} → number s ≡ got z n → (0 < n) × (n ≤ length s)
 number-within s {z} {n} =
@@ -160,10 +159,6 @@ pub number-fits : (s : List ℕ) {z : ℤ} {n : ℕ} → number s ≡ got z n �
 number-fits s {z} {n} =
     number-is (λ g. g ≡ got z n → SFits w64 z) s none-is-no-got
     (λ y m l h f e. let q : y ≡ z = cc in rw q at (true-in y f))
-
-pub number-refused : (s : List ℕ) {e : ℕ} → number s ≡ none e → e ≡ 3
-number-refused s {e} =
-    number-is (λ g. g ≡ none e → e ≡ 3) s (λ p. cc) (λ y m l h f p. none-is-no-got (sym p))
 
 -- ---- the digits of a number
 
@@ -247,7 +242,7 @@ integer-text-negative (negsuc n) t = refl
 
 pub integer-text-positive : (z : ℤ) → ltZ z (pos 0) ≡ false → integerText z ≡ decimal (natAbs z)
 integer-text-positive (pos n) t = refl
-integer-text-positive (negsuc n) t = let e : _≡_ {A = ℕ} 0 1 = cc in absurd (omega arith)
+integer-text-positive (negsuc n) t = never cc
 
 -- ---- what is printed reads back, whatever stands behind it, if that is no digit
 
@@ -262,7 +257,8 @@ printed-digits negative k n rest f e =
     rw (read-of-counted n rest e)
     (ended-got negative k (decimal n) (λ q. omega (arith, decimal-some n)) (rw v (in-true _ f)) ∙ rw v)
 
-pub read-of-printed : (z : ℤ) (rest : List ℕ) → SFits w64 z → leading rest ≡ [] → number (integerText z ++ rest) ≡ got z (length (integerText z))
+pub read-of-printed : (z : ℤ) (rest : List ℕ) → SFits w64 z → leading rest ≡ []
+    → number (integerText z ++ rest) ≡ got z (length (integerText z))
 read-of-printed (pos n) rest f e =
     let some : 0 < length (leading (decimal n ++ rest)) = rw (read-of-counted n rest e) (decimal-some n) in
     let h = leading-head (decimal n ++ rest) some in

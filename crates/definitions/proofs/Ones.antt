@@ -1,6 +1,6 @@
--- The machine's count of ones, word by word, is the definition's count of true variables.
+-- Is the machine's count of ones the definition's count of true variables? Word by word.
 use mathlib.Core.Path.{_≡_, refl, sym, ap, _∙_}
-use mathlib.Core.Bool.{Bool, true, cond}
+use mathlib.Core.Bool.{Bool, cond}
 use mathlib.Core.List.{List, [], _∷_}
 use Prim.Native.Nat.{ℕ, zero, suc, _+_, _*_, _/_, _%_, _^_, _≤_, _<_}
 use native.Mathlib.Nat.{mod-lt, mod-eq-of-lt, add-comm}
@@ -82,10 +82,12 @@ unfolding trueBelow
 true-alike a b zero e = refl
 true-alike a b (suc k) e = rw (true-alike a b k (λ v h. e v (omega arith)), e k (omega arith))
 
-true-behind : (w : ℕ) (ws : List ℕ) (k : ℕ) → trueBelow (assigned (w ∷ ws)) (64 + k) ≡ trueBelow (assigned (w ∷ ws)) 64 + trueBelow (assigned ws) k
+true-behind : (w : ℕ) (ws : List ℕ) (k : ℕ)
+    → trueBelow (assigned (w ∷ ws)) (64 + k) ≡ trueBelow (assigned (w ∷ ws)) 64 + trueBelow (assigned ws) k
 true-behind w ws k =
     true-split (assigned (w ∷ ws)) 64 k
-    ∙ ap (λ (n : ℕ). trueBelow (assigned (w ∷ ws)) 64 + n) (true-alike (λ v. assigned (w ∷ ws) (64 + v)) (assigned ws) k (λ v h. assigned-behind w ws v))
+    ∙ ap (λ (n : ℕ). trueBelow (assigned (w ∷ ws)) 64 + n)
+    (true-alike (λ v. assigned (w ∷ ws) (64 + v)) (assigned ws) k (λ v h. assigned-behind w ws v))
 
 -- the sum that the code makes
 unfoldable pub onesSummed : List ℕ → ℕ

@@ -9,6 +9,7 @@ use Rattle.definitions.specs.Lists.{joined}
 use Rattle.definitions.specs.Refusal.{Refusal, refusal}
 use Rattle.definitions.specs.Walk.{Step, stop, bad, item, Walked, broken, items, before, walk, all}
 use Rattle.definitions.specs.Pieces.{together, Pieces, none, next}
+use Rattle.definitions.proofs.Truths.{never}
 use Rattle.definitions.proofs.Walks.{Moves, walk-stop, walk-bad, walk-item}
 
 module _ {A : Type 0} (step : List ℕ → Step A) (place : ℕ → A → A) (moves : Moves step) where
@@ -18,9 +19,10 @@ module _ {A : Type 0} (step : List ℕ → Step A) (place : ℕ → A → A) (mo
     refused : {n k : ℕ} → step rest ≡ bad n k → Ended rest e l (broken (refusal n (e + k)))
 
   -- from what was found to how it ended
-  pub ended-items : {rest : List ℕ} {e : ℕ} {l : List A} {w : Walked A} (ls : List A) (n : ℕ) → Ended rest e l w → w ≡ items ls n → (l ≡ ls) × (e ≡ n) × (step rest ≡ stop)
+  pub ended-items : {rest : List ℕ} {e : ℕ} {l : List A} {w : Walked A} (ls : List A) (n : ℕ) → Ended rest e l w → w ≡ items ls n
+      → (l ≡ ls) × (e ≡ n) × (step rest ≡ stop)
   ended-items ls n (stopped p) q = (cc, cc, p)
-  ended-items ls n (refused p) q = let z : _≡_ {A = ℕ} 0 1 = cc in absurd (omega arith)
+  ended-items ls n (refused p) q = never cc
 
   pub record Refused (rest : List ℕ) (e : ℕ) (r : Refusal) : Type 0 where
     pub behind : ℕ
@@ -28,7 +30,7 @@ module _ {A : Type 0} (step : List ℕ → Step A) (place : ℕ → A → A) (mo
     pub spot : r .place ≡ e + behind
 
   pub ended-broken : {rest : List ℕ} {e : ℕ} {l : List A} {w : Walked A} (r : Refusal) → Ended rest e l w → w ≡ broken r → Refused rest e r
-  ended-broken r (stopped p) q = let z : _≡_ {A = ℕ} 0 1 = cc in absurd (omega arith)
+  ended-broken r (stopped p) q = never cc
   ended-broken {rest} {e} r (refused {n} {k} p) q =
       let z : refusal n (e + k) ≡ r = cc in
       rw (← z) (record { behind = k; answer = p; spot = refl })
@@ -45,7 +47,8 @@ module _ {A : Type 0} (step : List ℕ → Step A) (place : ℕ → A → A) (mo
   ended-before rest e l a (stopped p) = stopped p
   ended-before rest e l a (refused p) = refused p
 
-  through-next : (at : ℕ) (s : List ℕ) (a : A) (n : ℕ) (w : Walked A) → step s ≡ item a n → Through (at + n) (drop n s) w → Through at s (before (place at a) w)
+  through-next : (at : ℕ) (s : List ℕ) (a : A) (n : ℕ) (w : Walked A) → step s ≡ item a n → Through (at + n) (drop n s) w
+      → Through at s (before (place at a) w)
   unfolding joined
   through-next at s a n w e t =
       let x = take n s in
@@ -53,7 +56,8 @@ module _ {A : Type 0} (step : List ℕ → Step A) (place : ℕ → A → A) (mo
       let seam : x ++ (together (t .pieces) ++ t .rest) ≡ s = ap (λ (l : List ℕ). x ++ l) (sym (t .whole)) ∙ take-append-drop n s in
       let here : step (x ++ (together (t .pieces) ++ t .rest)) ≡ item a (length x) = rw (seam, size) e in
       let behind : Pieces step place (at + length x) (t .pieces) (t .rest) (t .found) = rw size (t .each) in
-      let end : at + n + length (together (t .pieces)) ≡ at + length (x ++ together (t .pieces)) = omega (arith, length-append x (together (t .pieces))) in
+      let end : at + n + length (together (t .pieces)) ≡ at + length (x ++ together (t .pieces)) =
+      omega (arith, length-append x (together (t .pieces))) in
       record {
         pieces = x ∷ t .pieces;
         rest = t .rest;
@@ -73,12 +77,15 @@ module _ {A : Type 0} (step : List ℕ → Step A) (place : ℕ → A → A) (mo
   through zero at s h = absurd (omega arith)
   through (suc fuel) at s h = by (step s) refl (λ n p. through fuel (at + n) (drop n s) p)
     where
-      by : (x : Step A) → step s ≡ x → ((n : ℕ) → length (drop n s) < fuel → Through (at + n) (drop n s) (walk step place (drop n s) 0 (at + n))) → Through at s (walk step place s 0 at)
+      by : (x : Step A) → step s ≡ x
+          → ((n : ℕ) → length (drop n s) < fuel → Through (at + n) (drop n s) (walk step place (drop n s) 0 (at + n)))
+          → Through at s (walk step place s 0 at)
       by stop e ih = rw (walk-stop step place moves at s e) (through-none at s (items [] at) (stopped e))
       by (bad n k) e ih = rw (walk-bad step place moves at s n k e) (through-none at s (broken (refusal n (at + k))) (refused e))
       by (item a n) e ih =
           rw (walk-item step place moves at s a n e)
-          (through-next at s a n (walk step place (drop n s) 0 (at + n)) e (ih n (omega (arith, moves .least s a n e, moves .most s a n e, length-drop n s))))
+          (through-next at s a n (walk step place (drop n s) 0 (at + n)) e
+          (ih n (omega (arith, moves .least s a n e, moves .most s a n e, length-drop n s))))
 
   pub all-through : (s : List ℕ) → Through 0 s (all step place s)
   unfolding all

@@ -1,7 +1,8 @@
--- Texts into an output that has room, and tables row by row: what the two walks of a writer of lines go by. A text is put behind another, byte by byte or whole;
--- a needed length is added up; the first rows of a table are checked, and the rest are left.
+-- What is left in an output that texts are put into, and what is known after some rows of a table? What the two walks of a writer
+-- of lines go by. A text is put behind another, byte by byte or whole; a needed length is added up; the first rows of a table are
+-- checked, and the rest are left.
 use mathlib.Core.Path.{_≡_, refl, sym, ap, _∙_}
-use mathlib.Core.List.{List, [], _∷_, _++_, append-assoc, append-nil}
+use mathlib.Core.List.{List, [], _∷_, _++_, append-assoc}
 use Prim.Native.Nat.{ℕ, zero, suc, _+_, _*_, _/_, _^_, _≤_, _<_}
 use native.Mathlib.Nat.{add-zero}
 use native.Mathlib.Decide.{decLt}
@@ -17,7 +18,10 @@ use Rattle.definitions.specs.Lists.{joined}
 use Rattle.definitions.specs.Refusal.{refusal, Checked, refuse, accept, needed}
 use Rattle.definitions.specs.Number.{decimal, integerText}
 use Rattle.definitions.specs.Output.{putAt, putIn}
-use Rattle.definitions.specs.Table.{Outcome, refused, accepted, onRow, rowByRow}
+use Rattle.definitions.specs.Table.{Outcome, refused, accepted, rowByRow}
+use Rattle.definitions.proofs.Columns as columns
+use Rattle.definitions.proofs.Columns.{onto, Passed, passed-none, passed-all, passed-refused, passed-more}
+use Rattle.definitions.proofs.Truths.{never}
 use Rattle.definitions.proofs.Numbers.{decimal-length-small, decimal-length-big}
 
 abbrev pub placed : List ℕ → ℕ → List ℕ → List ℕ
@@ -46,7 +50,7 @@ module _ (text : List ℕ) (at : ℕ) (o : List ℕ) (h : at + length text ≤ l
       record { place = d; after = q ∙ put-in-fits }
 
   pub put-full {ℓ} : {X : Type ℓ} → refuse 14 ≡ putAt text at o → X
-  put-full a = let f = put-at-fits in let z : _≡_ {A = ℕ} 0 1 = cc in absurd (omega arith)
+  put-full a = let f = put-at-fits in never cc
 
 module _ (text : List ℕ) (at : ℕ) (o : List ℕ) (h : length o < at + length text) where
   pub put-at-full : putAt text at o ≡ refuse 14
@@ -63,7 +67,14 @@ module _ (text : List ℕ) (at : ℕ) (o : List ℕ) (h : at + length text ≤ l
   front = length-append (take at o) text ∙ rw (length-take-le at o (omega arith))
 
   pub placed-length : length (placed text at o) ≡ length o
-  placed-length = omega (arith, length-append (take at o) (text ++ drop (at + length text) o), length-append text (drop (at + length text) o), length-drop (at + length text) o, length-take-le at o (omega arith))
+  placed-length =
+      omega (
+        arith,
+        length-append (take at o) (text ++ drop (at + length text) o),
+        length-append text (drop (at + length text) o),
+        length-drop (at + length text) o,
+        length-take-le at o (omega arith),
+      )
 
   pub placed-append : (more : List ℕ) → placed more (at + length text) (placed text at o) ≡ placed (text ++ more) at o
   placed-append more =
@@ -108,11 +119,13 @@ pub puts-byte : (b at q : ℕ) (o : List ℕ) → at < length o → q ≡ at + 1
 puts-byte b at q o h e = record { place = e; after = set-split o at b h ∙ rw add-one }
 
 -- a byte, and a text behind it
-pub byte-then : (b at q : ℕ) (o : List ℕ) → at < length o → q ≡ at + 1 → {a : List ℕ} {r : ℕ} {o₂ : List ℕ} → Puts a q (set o at b) r o₂ → Puts (b ∷ a) at o r o₂
+pub byte-then : (b at q : ℕ) (o : List ℕ) → at < length o → q ≡ at + 1 → {a : List ℕ} {r : ℕ} {o₂ : List ℕ}
+    → Puts a q (set o at b) r o₂ → Puts (b ∷ a) at o r o₂
 byte-then b at q o h e f = puts-then (puts-byte b at q o h e) (omega arith) f
 
 -- a text, and a byte behind it
-pub then-byte : (b q : ℕ) {a : List ℕ} {at : ℕ} {o : List ℕ} {p : ℕ} {o₁ : List ℕ} → at + length a < length o → q ≡ p + 1 → Puts a at o p o₁ → Puts (a ++ (b ∷ [])) at o q (set o₁ p b)
+pub then-byte : (b q : ℕ) {a : List ℕ} {at : ℕ} {o : List ℕ} {p : ℕ} {o₁ : List ℕ} → at + length a < length o → q ≡ p + 1
+    → Puts a at o p o₁ → Puts (a ++ (b ∷ [])) at o q (set o₁ p b)
 then-byte b q {a} {at} {o} {p} {o₁} h e f =
     puts-then f (omega arith) (puts-byte b p q o₁ (omega (arith, f .place, puts-length f (omega arith))) e)
 
@@ -156,24 +169,16 @@ number-length-most (negsuc n) f = omega (arith, decimal-length-below 18 (suc n) 
 -- ---- the texts of a list
 module _ {A B : Type 0} (f : B → List A) where
   pub joined-append : (xs ys : List B) → joined f (xs ++ ys) ≡ joined f xs ++ joined f ys
-  unfolding joined
-  joined-append [] ys = refl
-  joined-append (x ∷ xs) ys = rw (joined-append xs ys, append-assoc)
+  joined-append = columns.joined-append f
 
   pub joined-last : (xs : List B) (x : B) → joined f (xs ++ (x ∷ [])) ≡ joined f xs ++ f x
-  unfolding joined
-  joined-last xs x = joined-append xs (x ∷ []) ∙ rw (append-nil (f x))
+  joined-last = columns.joined-snoc f
 
--- ---- row by row
-abbrev pub onto : {B : Type 0} → List B → Outcome (List B) → Outcome (List B)
-onto pre (refused r) = refused r
-onto pre (accepted bs) = accepted (pre ++ bs)
-
+-- ---- row by row: Columns has the laws, here with what is known left out
 module _ {A B : Type 0} (f : A → Checked B) where
   -- the first i of the list gave pre, and the rest are left
-  pub record RowsAt (l : List A) (i : ℕ) (pre : List B) : Type 0 where
-    pub count : length pre ≡ i
-    pub split : rowByRow f 0 l ≡ onto pre (rowByRow f i (drop i l))
+  abbrev pub RowsAt : List A → ℕ → List B → Type 0
+  RowsAt l i pre = Passed f l i pre
 
   -- among the lines bs that a list gave, pre of them before it, stands the line of a
   pub record Next (a : A) (pre bs : List B) : Type 0 where
@@ -182,55 +187,43 @@ module _ {A B : Type 0} (f : A → Checked B) where
     pub rest : List B
     pub split : bs ≡ pre ++ (line ∷ rest)
 
-  onto-none : (o : Outcome (List B)) → o ≡ onto [] o
-  onto-none (refused r) = refl
-  onto-none (accepted bs) = refl
-
   pub rows-none : (l : List A) → RowsAt l 0 []
-  rows-none l = record { count = refl; split = onto-none (rowByRow f 0 l) }
+  rows-none l = passed-none f l
 
   module _ {l : List A} {i : ℕ} {pre : List B} (w : RowsAt l i pre) where
     pub rows-all : drop i l ≡ [] → rowByRow f 0 l ≡ accepted pre
-    unfolding rowByRow
-    rows-all e = w .split ∙ rw e (ap accepted (append-nil pre))
+    rows-all = passed-all f l i pre w
 
     -- a is the next
     module _ (a : A) (next : drop i l ≡ a ∷ drop (i + 1) l) where
       pub rows-refused : (n : ℕ) → f a ≡ refuse n → rowByRow f 0 l ≡ refused (refusal n i)
-      unfolding rowByRow
-      rows-refused n e = w .split ∙ rw (next, rowByRow, e)
-
-      onto-row : (b : B) (o : Outcome (List B)) → onto pre (onRow i (accept b) o) ≡ onto (pre ++ (b ∷ [])) o
-      onto-row b (refused r) = refl
-      onto-row b (accepted bs) = ap accepted (sym (append-assoc pre (b ∷ []) bs))
+      rows-refused = passed-refused f l i pre w a next
 
       pub rows-more : (b : B) → f a ≡ accept b → RowsAt l (i + 1) (pre ++ (b ∷ []))
-      unfolding rowByRow
-      rows-more b e =
-          record {
-            count = omega (arith, w .count, length-append pre (b ∷ []));
-            split = w .split ∙ rw (next, rowByRow, e) (onto-row b (rowByRow f (i + 1) (drop (i + 1) l)));
-          }
+      rows-more = passed-more f l i pre w a next
 
       pub rows-next : (bs : List B) → rowByRow f 0 l ≡ accepted bs → Next a pre bs
       rows-next bs e = by (f a) refl
         where
           behind : (b : B) (o : Outcome (List B)) → f a ≡ accept b → accepted bs ≡ onto (pre ++ (b ∷ [])) o → Next a pre bs
-          behind b (refused r) q s = let z : _≡_ {A = ℕ} 0 1 = cc in absurd (omega arith)
-          behind b (accepted cs) q s = let d : bs ≡ (pre ++ (b ∷ [])) ++ cs = cc in record { line = b; is = q; rest = cs; split = d ∙ append-assoc pre (b ∷ []) cs }
+          behind b (refused r) q s = never cc
+          behind b (accepted cs) q s =
+              let d : bs ≡ (pre ++ (b ∷ [])) ++ cs = cc in record { line = b; is = q; rest = cs; split = d ∙ append-assoc pre (b ∷ []) cs }
 
           by : (r : Checked B) → f a ≡ r → Next a pre bs
-          by (refuse n) q = let d = rows-refused n q in let z : _≡_ {A = ℕ} 0 1 = cc in absurd (omega arith)
+          by (refuse n) q = let d = rows-refused n q in never cc
           by (accept b) q = behind b (rowByRow f (i + 1) (drop (i + 1) l)) q (sym e ∙ rows-more b q .split)
 
 -- ---- the first n of a list
 
-first-of : {A : Type 0} (l : List A) (n i : ℕ) (a : A) → i < n → drop i l ≡ a ∷ drop (suc i) l → drop i (take n l) ≡ a ∷ drop (suc i) (take n l)
+first-of : {A : Type 0} (l : List A) (n i : ℕ) (a : A) → i < n → drop i l ≡ a ∷ drop (suc i) l
+    → drop i (take n l) ≡ a ∷ drop (suc i) (take n l)
 first-of l zero i a h e = absurd (omega arith)
-first-of [] (suc n) zero a h e = let z : _≡_ {A = ℕ} 0 1 = cc in absurd (omega arith)
-first-of [] (suc n) (suc i) a h e = let z : _≡_ {A = ℕ} 0 1 = cc in absurd (omega arith)
+first-of [] (suc n) zero a h e = never cc
+first-of [] (suc n) (suc i) a h e = never cc
 first-of (x ∷ l) (suc n) zero a h e = let q : x ≡ a = cc in rw q
 first-of (x ∷ l) (suc n) (suc i) a h e = first-of l n i a (omega arith) e
 
-pub drop-in-take : {A : Type 0} (l : List A) (n i : ℕ) (a : A) → i < n → drop i l ≡ a ∷ drop (i + 1) l → drop i (take n l) ≡ a ∷ drop (i + 1) (take n l)
+pub drop-in-take : {A : Type 0} (l : List A) (n i : ℕ) (a : A) → i < n → drop i l ≡ a ∷ drop (i + 1) l
+    → drop i (take n l) ≡ a ∷ drop (i + 1) (take n l)
 drop-in-take l n i a h e = rw add-one (first-of l n i a h (rw add-one at e))

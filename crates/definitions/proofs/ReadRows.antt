@@ -1,8 +1,8 @@
--- What is known of rows that were read: each weight is within 64 bits, each index and its file number within their limits, absolute weights are at most M, and the
--- bound is within 64 bits.
+-- What is known of rows that were read? Each weight is within 64 bits, each index and its file number within their limits,
+-- absolute weights are at most M, and the bound is within 64 bits.
 use Prim.Native.Nat.{ℕ, _+_, _-_, _≤_}
 use mathlib.Core.Path.{_≡_, refl, sym, ap, _∙_}
-use mathlib.Core.Bool.{Bool, true, false, cond, _&&_, _||_}
+use mathlib.Core.Bool.{Bool, true, false, _&&_, _||_}
 use mathlib.Core.List.{List, [], _∷_}
 use native.Mathlib.Omega.{arith}
 use borrow.Author.Tests.{leb-true, le-leb}
@@ -21,23 +21,22 @@ use Rattle.definitions.specs.Literal.{index, indexOf, isIndex, codeOf, f
 use Rattle.definitions.specs.Walk.{stop, item, Walked, broken, items, all, anywhere}
 use Rattle.definitions.specs.Row.{Term, term, Kind, Row, rowOf, Line, comment, row, sizes}
 use Rattle.definitions.specs.Table.{indexed}
-use Rattle.definitions.specs.Text.{gap, gap1, codeBy, digits, variable, literal, afterWeight, weighted, termStep, asGot, sum, comparison, sized, constraint, ending, minBlanks, goal, remark, asLine, statementBy, afterBlanks, statementAt, statement, inFile}
+use Rattle.definitions.specs.Text.{gap, gap1, codeBy, digits, variable, literal, afterWeight, weighted, termStep, asGot, sum}
+use Rattle.definitions.specs.Text.{comparison, sized, constraint, ending, minBlanks, goal, remark, asLine, statementBy}
+use Rattle.definitions.specs.Text.{afterBlanks, statementAt, statement, inFile}
 use Rattle.definitions.specs.File.{statements}
 use Rattle.definitions.specs.Write.{numbered}
 use Rattle.definitions.specs.declared.Options.{Options}
 use Rattle.definitions.specs.declared.Beginning.{Beginning}
 use Rattle.definitions.specs.declared.Beginning.the-variants.{Comment, Objective, Constraint, Nothing}
+use Rattle.definitions.proofs.Readback.{GoodTerm}
+use Rattle.definitions.proofs.Truths.{never, both, cond-holds}
 use Rattle.definitions.proofs.Whole.{true-in}
 use Rattle.definitions.proofs.Numbers.{number-fits}
 use Rattle.definitions.proofs.Chains.{chain-linked}
 use Rattle.definitions.proofs.Walks.{all-ended}
 use Rattle.definitions.proofs.Statements.{term-step-item}
 use Rattle.definitions.proofs.Tables.{Indexed, Numbered}
-
-pub record GoodTerm (first : ℕ) (t : Term) : Type 0 where
-  pub fits : SFits w64 (t .weight)
-  pub index : indexOf (t .code) ≤ indexLimit
-  pub number : indexOf (t .code) + first ≤ fileNumberLimit
 
 pub record GoodRow (first : ℕ) (r : Row) : Type 0 where
   pub each : AllOf (GoodTerm first) (r .terms)
@@ -47,10 +46,6 @@ pub record GoodRow (first : ℕ) (r : Row) : Type 0 where
 abbrev pub GoodLine : ℕ → Line → Type 0
 GoodLine first (comment f n b) = Unit {0}
 GoodLine first (row r) = GoodRow first r
-
-both : (x y : Bool) → x && y ≡ true → (x ≡ true) × (y ≡ true)
-both true y e = (refl, e)
-both false y e = let z : _≡_ {A = ℕ} 0 1 = cc in absurd (omega arith)
 
 -- ---- literals
 
@@ -67,10 +62,6 @@ unfolding Limited
 limited-more first (none e) h = tt
 limited-more first (got c n) h = h
 
-limited-cond : (first : ℕ) (b : Bool) (x y : Got ℕ) → Limited first x → Limited first y → Limited first (cond b x y)
-limited-cond first true x y p q = p
-limited-cond first false x y p q = q
-
 code-half : (negative : Bool) (v : ℕ) → indexOf (codeOf negative v) ≡ v
 code-half true v = omega arith
 code-half false v = omega arith
@@ -86,9 +77,10 @@ index-limited first n v e = by (leb n fileNumberLimit && (leb first n && isIndex
         let g = both (leb n fileNumberLimit) (leb first n && isIndex (n - first)) q in
         let h = both (leb first n) (isIndex (n - first)) (g .1) in
         (omega (arith, leb-true (n - first) indexLimit (h .1)), omega (arith, leb-true n fileNumberLimit (g .0), leb-true first n (h .0)))
-    by false q = let c : refuse 5 ≡ accept v = sym (rw q) ∙ e in let z : _≡_ {A = ℕ} 0 1 = cc in absurd (omega arith)
+    by false q = let c : refuse 5 ≡ accept v = sym (rw q) ∙ e in never cc
 
-limited-code : (first : ℕ) (negative : Bool) (n : ℕ) (c : Checked ℕ) → ((v : ℕ) → c ≡ accept v → Within first v) → Limited first (codeBy negative n c)
+limited-code : (first : ℕ) (negative : Bool) (n : ℕ) (c : Checked ℕ) → ((v : ℕ) → c ≡ accept v → Within first v)
+    → Limited first (codeBy negative n c)
 unfolding Limited
 limited-code first negative n (refuse e) f = tt
 limited-code first negative n (accept v) f = rw (code-half negative v) (f v refl)
@@ -97,20 +89,23 @@ module _ (o : Options) where
   limited-digits : (negative : Bool) (s : List ℕ) → Limited (o .first) (digits o negative s)
   unfolding digits Limited
   limited-digits negative s =
-      limited-cond (o .first) (eqb (length (leading s)) 0) (none 4) (codeBy negative (length (leading s)) (index (o .first) (value (leading s)))) tt
-      (limited-code (o .first) negative (length (leading s)) (index (o .first) (value (leading s))) (index-limited (o .first) (value (leading s))))
+      cond-holds (eqb (length (leading s)) 0) (none 4) (codeBy negative (length (leading s)) (index (o .first) (value (leading s))))
+      (Limited (o .first)) tt
+      (limited-code (o .first) negative (length (leading s)) (index (o .first) (value (leading s)))
+      (index-limited (o .first) (value (leading s))))
 
   limited-variable : (negative : Bool) (s : List ℕ) → Limited (o .first) (variable o negative s)
   unfolding variable Limited
   limited-variable negative [] = tt
   limited-variable negative (b ∷ s) =
-      limited-cond (o .first) (eqb b letterX) (more 1 (digits o negative s)) (none 4) (limited-more (o .first) (digits o negative s) (limited-digits negative s)) tt
+      cond-holds (eqb b letterX) (more 1 (digits o negative s)) (none 4) (Limited (o .first))
+      (limited-more (o .first) (digits o negative s) (limited-digits negative s)) tt
 
   limited-literal : (s : List ℕ) → Limited (o .first) (literal o s)
   unfolding literal Limited
   limited-literal [] = tt
   limited-literal (b ∷ s) =
-      limited-cond (o .first) (eqb b tilde || eqb b minus) (more 1 (variable o true s)) (variable o false (b ∷ s))
+      cond-holds (eqb b tilde || eqb b minus) (more 1 (variable o true s)) (variable o false (b ∷ s)) (Limited (o .first))
       (limited-more (o .first) (variable o true s) (limited-variable true s)) (limited-variable false (b ∷ s))
 
   literal-limited : (s : List ℕ) (c n : ℕ) → literal o s ≡ got c n → Within (o .first) (indexOf c)
@@ -135,14 +130,16 @@ module _ (o : Options) where
   sum-good s ts n e = by (all (termStep o) anywhere s) refl
     where
       by : (w : Walked Term) → all (termStep o) anywhere s ≡ w → AllOf (GoodTerm (o .first)) ts
-      by (broken r) q = let c : none (r .number) ≡ got ts n = ap asGot (sym q) ∙ e in let z : _≡_ {A = ℕ} 0 1 = cc in absurd (omega arith)
+      by (broken r) q = let c : none (r .number) ≡ got ts n = ap asGot (sym q) ∙ e in never cc
       by (items xs m) q =
           let c : got xs m ≡ got ts n = ap asGot (sym q) ∙ e in
           let x : xs ≡ ts = cc in
-          rw (← x) (all-ended (termStep o) anywhere (GoodTerm (o .first)) (λ s' t k at i. weighted-good s' t k (term-step-item o s' t k i)) s xs m q .1)
+          rw (← x) (all-ended (termStep o) anywhere (GoodTerm (o .first))
+          (λ s' t k at i. weighted-good s' t k (term-step-item o s' t k i)) s xs m q .1)
 
   -- ---- rows
-  sized-good : (k : Kind) (b : ℤ) (ts : List Term) (s : List ℕ) (r : Row) (n : ℕ) → AllOf (GoodTerm (o .first)) ts → sized k b ts s ≡ got r n → GoodRow (o .first) r
+  sized-good : (k : Kind) (b : ℤ) (ts : List Term) (s : List ℕ) (r : Row) (n : ℕ) → AllOf (GoodTerm (o .first)) ts
+      → sized k b ts s ≡ got r n → GoodRow (o .first) r
   unfolding sized
   sized-good k b ts s r n g e = by (leb (sizes ts) weightLimit && inI64 b) refl
     where
@@ -152,7 +149,7 @@ module _ (o : Options) where
           let same : rowOf k b ts ≡ r = cc in
           let h = both (leb (sizes ts) weightLimit) (inI64 b) q in
           rw (← same) (record { each = g; total = leb-true (sizes ts) weightLimit (h .0); fits = true-in b (h .1) })
-      by false q = let c : none 8 ≡ got r n = sym (rw q) ∙ e in let z : _≡_ {A = ℕ} 0 1 = cc in absurd (omega arith)
+      by false q = let c : none 8 ≡ got r n = sym (rw q) ∙ e in never cc
 
   constraint-good : (s : List ℕ) (r : Row) (n : ℕ) → constraint o s ≡ got r n → GoodRow (o .first) r
   unfolding constraint
@@ -170,7 +167,8 @@ module _ (o : Options) where
       sized-good _ _ (l .given) _ r (m .behind) (sum-good _ (l .given) (l .taken) (l .here)) (m .there)
 
   -- ---- statements
-  line-good : (p : Reader Row) (s : List ℕ) (l : Line) (n : ℕ) → ((r : Row) (m : ℕ) → p s ≡ got r m → GoodRow (o .first) r) → chain p asLine s ≡ got l n → GoodLine (o .first) l
+  line-good : (p : Reader Row) (s : List ℕ) (l : Line) (n : ℕ) → ((r : Row) (m : ℕ) → p s ≡ got r m → GoodRow (o .first) r)
+      → chain p asLine s ≡ got l n → GoodLine (o .first) l
   unfolding done
   line-good p s l n f e =
       let k = chain-linked p asLine s l n e in
@@ -180,19 +178,20 @@ module _ (o : Options) where
 
   remark-good : (s : List ℕ) (l : Line) (n : ℕ) → remark s ≡ got l n → GoodLine (o .first) l
   unfolding remark
-  remark-good [] l n e = let z : _≡_ {A = ℕ} 0 1 = cc in absurd (omega arith)
+  remark-good [] l n e = never cc
   remark-good (b ∷ s) (comment f k c) n e = tt
-  remark-good (b ∷ s) (row r) n e = let z : _≡_ {A = ℕ} 0 1 = cc in absurd (omega arith)
+  remark-good (b ∷ s) (row r) n e = never cc
 
   by-good : (b : Beginning) (s : List ℕ) (l : Line) (n : ℕ) → statementBy b o s ≡ got l n → GoodLine (o .first) l
   unfolding fail
   by-good Comment s l n e = remark-good s l n e
   by-good Objective s l n e = line-good (goal o) s l n (goal-good s) e
   by-good Constraint s l n e = line-good (constraint o) s l n (constraint-good s) e
-  by-good Nothing s l n e = let z : _≡_ {A = ℕ} 0 1 = cc in absurd (omega arith)
+  by-good Nothing s l n e = never cc
 
-  after-good : (k : ℕ) (g : Got Line) (l : Line) (n : ℕ) → ((l' : Line) (m : ℕ) → g ≡ got l' m → GoodLine (o .first) l') → afterBlanks k g ≡ item l n → GoodLine (o .first) l
-  after-good k (none x) l n f e = let z : _≡_ {A = ℕ} 0 1 = cc in absurd (omega arith)
+  after-good : (k : ℕ) (g : Got Line) (l : Line) (n : ℕ) → ((l' : Line) (m : ℕ) → g ≡ got l' m → GoodLine (o .first) l')
+      → afterBlanks k g ≡ item l n → GoodLine (o .first) l
+  after-good k (none x) l n f e = never cc
   after-good k (got (comment a b c) m) l n f e = let x : comment (k + a) b c ≡ l = cc in rw (← x) tt
   after-good k (got (row r) m) l n f e = let x : row r ≡ l = cc in rw (← x) (f (row r) m refl)
 
@@ -201,8 +200,10 @@ module _ (o : Options) where
   statement-good s l n e = at (drop (blanks s) s) e
     where
       at : (r : List ℕ) → statementAt o (blanks s) r ≡ item l n → GoodLine (o .first) l
-      at [] q = let z : stop ≡ item l n = unfold statementAt in q in let y : _≡_ {A = ℕ} 0 1 = cc in absurd (omega arith)
-      at (b ∷ r) q = after-good (blanks s) (statementBy (begins (classOf b)) o (b ∷ r)) l n (by-good (begins (classOf b)) (b ∷ r)) (unfold statementAt in q)
+      at [] q = let z : stop ≡ item l n = unfold statementAt in q in never cc
+      at (b ∷ r) q =
+          after-good (blanks s) (statementBy (begins (classOf b)) o (b ∷ r)) l n (by-good (begins (classOf b)) (b ∷ r))
+          (unfold statementAt in q)
 
   in-file-good : (at : ℕ) (l : Line) → GoodLine (o .first) l → GoodLine (o .first) (inFile at l)
   in-file-good at (comment f n b) g = tt
@@ -211,7 +212,8 @@ module _ (o : Options) where
   -- all that a file's statements give
   pub statements-good : (s : List ℕ) (ls : List Line) (n : ℕ) → statements o s ≡ items ls n → AllOf (GoodLine (o .first)) ls
   unfolding statements
-  statements-good s ls n e = all-ended (statement o) inFile (GoodLine (o .first)) (λ s' l k at i. in-file-good at l (statement-good s' l k i)) s ls n e .1
+  statements-good s ls n e =
+      all-ended (statement o) inFile (GoodLine (o .first)) (λ s' l k at i. in-file-good at l (statement-good s' l k i)) s ls n e .1
 
 -- ---- so a table that was read holds the rows that were read, and each has its file numbers
 terms-indexed : (first : ℕ) (ts : List Term) → AllOf (GoodTerm first) ts → indexed ts ≡ true

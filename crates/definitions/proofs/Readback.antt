@@ -14,17 +14,18 @@ use mir.Syntax.{w64}
 use mir.Val.{SFits}
 use Rattle.definitions.specs.Limits.{indexLimit, fileNumberLimit}
 use Rattle.definitions.specs.Refusal.{accept}
-use Rattle.definitions.specs.Bytes.{isDigit, isSign, isBlank, isAt, blanks, lineEnding, space, tab, less, equals, greater, letterX, tilde}
+use Rattle.definitions.specs.Bytes.{bytes, isDigit, isSign, isBlank, isAt, blanks, lineEnding, space, tab}
+use Rattle.definitions.specs.Bytes.{letterX, tilde}
 use Rattle.definitions.specs.Reader.{got, Reader, more, chain, done}
 use Rattle.definitions.specs.Number.{leading, value, number, decimal, integerText}
 use Rattle.definitions.specs.Literal.{codeOf, indexOf, negated, index}
 use Rattle.definitions.specs.Row.{Term, term}
-use Rattle.definitions.specs.Text.{gap, someBlanks, gap1, digits, variable, literal, afterWeight, weighted, beginsTerm, operator, closing, ending}
+use Rattle.definitions.specs.Text.{gap, someBlanks, gap1, digits, variable, literal, afterWeight, weighted, beginsTerm}
+use Rattle.definitions.specs.Text.{operator, closing, ending}
 use Rattle.definitions.specs.Write.{numberText, literalText, termText, closed}
 use Rattle.definitions.specs.declared.Options.{Options}
 use Rattle.definitions.specs.declared.OpbOperator.the-variants.{LE, GE, EQ}
-use Rattle.definitions.proofs.Truths.{one-truth}
-use Rattle.definitions.proofs.Texts.{either}
+use Rattle.definitions.proofs.Truths.{one-truth, either}
 use Rattle.definitions.proofs.Numbers.{leading-decimal, read-of-counted, value-decimal, decimal-some, read-of-printed}
 
 -- p takes x as a, with rest behind it
@@ -34,7 +35,9 @@ pub record Reads {A : Type 0} (p : Reader A) (x rest : List ℕ) (a : A) : Type 
 pub reads-chain : {A B : Type 0} {p : Reader A} (k : A → Reader B) (x y : List ℕ) {rest : List ℕ} {a : A} {b : B}
     → Reads p x (y ++ rest) a → Reads (k a) y rest b → Reads (chain p k) (x ++ y) rest b
 unfolding chain
-reads-chain k x y {rest} {a} {b} e f = record { reads = rw (append-assoc x y rest, e .reads, drop-append-seam x (y ++ rest), f .reads) (ap (got b) (sym (length-append x y))) }
+reads-chain k x y {rest} {a} {b} e f = record {
+  reads = rw (append-assoc x y rest, e .reads, drop-append-seam x (y ++ rest), f .reads) (ap (got b) (sym (length-append x y)));
+}
 
 pub reads-done : {A : Type 0} (a : A) (rest : List ℕ) → Reads (done a) [] rest a
 unfolding done
@@ -92,11 +95,18 @@ pub one-space : (rest : List ℕ) → blanks rest ≡ 0 → blanks (space ∷ re
 unfolding blanks
 one-space rest e = ap suc e
 
--- ---- literals
+-- ---- literals and terms
+
+-- what 01 asks of a term that is read
+pub record GoodTerm (first : ℕ) (t : Term) : Type 0 where
+  pub fits : SFits w64 (t .weight)
+  pub index : indexOf (t .code) ≤ indexLimit
+  pub number : indexOf (t .code) + first ≤ fileNumberLimit
 
 module _ (o : Options) where
   -- the digits of a file number that has an index
-  reads-digits : (negative : Bool) (ds rest : List ℕ) (v : ℕ) → leading (ds ++ rest) ≡ ds → 0 < length ds → index (o .first) (value ds) ≡ accept v
+  reads-digits : (negative : Bool) (ds rest : List ℕ) (v : ℕ) → leading (ds ++ rest) ≡ ds → 0 < length ds
+      → index (o .first) (value ds) ≡ accept v
       → digits o negative (ds ++ rest) ≡ got (codeOf negative v) (length ds)
   unfolding digits
   reads-digits negative ds rest v l h e = rw (l, ne-eqb (length ds) 0 (λ q. omega arith), e)
@@ -108,7 +118,9 @@ module _ (o : Options) where
 
     pub reads-negated : Reads (literal o) (tilde ∷ letterX ∷ ds) rest (codeOf true v)
     unfolding literal variable
-    reads-negated = record { reads = ap (λ g. more 1 (more 1 g)) (reads-digits true ds rest v l h e) ∙ ap (got (codeOf true v)) (omega arith) }
+    reads-negated = record {
+      reads = ap (λ g. more 1 (more 1 g)) (reads-digits true ds rest v l h e) ∙ ap (got (codeOf true v)) (omega arith);
+    }
 
   -- a literal as it is written: a code whose index and file number are within their limits
   pub reads-literal : (c : ℕ) (rest : List ℕ) → indexOf c ≤ indexLimit → indexOf c + o .first ≤ fileNumberLimit → leading rest ≡ []
@@ -122,7 +134,13 @@ module _ (o : Options) where
       found : index (o .first) (value ds) ≡ accept (indexOf c)
       found =
           let d : indexOf c + o .first - o .first ≡ indexOf c = omega arith in
-          rw (value-decimal (indexOf c + o .first), le-leb (indexOf c + o .first) fileNumberLimit i, le-leb (o .first) (indexOf c + o .first) (omega arith), d, le-leb (indexOf c) indexLimit h)
+          rw (
+            value-decimal (indexOf c + o .first),
+            le-leb (indexOf c + o .first) fileNumberLimit i,
+            le-leb (o .first) (indexOf c + o .first) (omega arith),
+            d,
+            le-leb (indexOf c) indexLimit h,
+          )
 
       by : (n : Bool) → negated c ≡ n → Reads (literal o) (literalText (o .first) c) rest c
       by true q =
@@ -133,17 +151,12 @@ module _ (o : Options) where
           rw q (rw z at (reads-plain ds rest (indexOf c) (read-of-counted _ rest e) (decimal-some _) found))
 
   -- a weight, blanks, a literal, blanks
-  pub reads-weighted : (x g l b : List ℕ) {rest : List ℕ} {w : ℤ} {c i k : ℕ} → Reads number x ((g ++ (l ++ b)) ++ rest) w → Reads gap1 g ((l ++ b) ++ rest) i → Reads (literal o) l (b ++ rest) c
+  pub reads-weighted : (x g l b : List ℕ) {rest : List ℕ} {w : ℤ} {c i k : ℕ} → Reads number x ((g ++ (l ++ b)) ++ rest) w
+      → Reads gap1 g ((l ++ b) ++ rest) i → Reads (literal o) l (b ++ rest) c
       → Reads gap b rest k → Reads (weighted o) (x ++ (g ++ (l ++ b))) rest (term w c)
   unfolding weighted afterWeight
   reads-weighted x g l b {rest} p q r s =
       reads-chain _ x (g ++ (l ++ b)) p (reads-chain _ g (l ++ b) q (reads-chain _ l b r (reads-end _ b s (reads-done _ rest))))
-
-  -- what 01 asks of a term that is read
-  pub record GoodTerm (t : Term) : Type 0 where
-    pub weight : SFits w64 (t .weight)
-    pub index : indexOf (t .code) ≤ indexLimit
-    pub number : indexOf (t .code) + o .first ≤ fileNumberLimit
 
   literal-no-blank : (c : ℕ) (b rest : List ℕ) → blanks ((literalText (o .first) c ++ b) ++ rest) ≡ 0
   unfolding literalText blanks
@@ -154,27 +167,28 @@ module _ (o : Options) where
       by false q = rw q
 
   -- a term as it is written, with blanks b behind it
-  pub reads-term : (t : Term) (b rest : List ℕ) → GoodTerm t → leading (b ++ rest) ≡ [] → blanks (b ++ rest) ≡ length b → Reads (weighted o) (termText (o .first) t ++ b) rest t
+  pub reads-term : (t : Term) (b rest : List ℕ) → GoodTerm (o .first) t → leading (b ++ rest) ≡ [] → blanks (b ++ rest) ≡ length b
+      → Reads (weighted o) (termText (o .first) t ++ b) rest t
   unfolding termText leading
   reads-term t b rest g e h =
       let w = integerText (t .weight) in
       let l = literalText (o .first) (t .code) in
       rw (append-assoc w (space ∷ l) b)
-      (reads-weighted w (space ∷ []) l b (record { reads = read-of-printed (t .weight) _ (g .weight) refl })
+      (reads-weighted w (space ∷ []) l b (record { reads = read-of-printed (t .weight) _ (g .fits) refl })
       (reads-gap1 space [] _ (one-space _ (literal-no-blank (t .code) b rest)))
       (reads-literal (t .code) _ (g .index) (g .number) e) (reads-gap b rest h))
 
 -- ---- operators, endings
 
-pub reads-at-least : (rest : List ℕ) → Reads operator (greater ∷ equals ∷ []) rest GE
+pub reads-at-least : (rest : List ℕ) → Reads operator (bytes ">=") rest GE
 unfolding operator isAt
 reads-at-least rest = record { reads = refl }
 
-pub reads-at-most : (rest : List ℕ) → Reads operator (less ∷ equals ∷ []) rest LE
+pub reads-at-most : (rest : List ℕ) → Reads operator (bytes "<=") rest LE
 unfolding operator isAt
 reads-at-most rest = record { reads = refl }
 
-pub reads-equal : (rest : List ℕ) → Reads operator (equals ∷ []) rest EQ
+pub reads-equal : (rest : List ℕ) → Reads operator (bytes "=") rest EQ
 unfolding operator isAt
 reads-equal rest = record { reads = refl }
 

@@ -1,4 +1,5 @@
--- How many bytes each reader of Text.antt takes: no more than there are, and a statement or a term at least one. A statement has no more terms than bytes.
+-- How many bytes does each reader of Text.antt take? No more than there are, and a statement or a term at least one. A statement
+-- has no more terms than bytes.
 use Prim.Native.Nat.{ℕ, zero, suc, _+_, _-_, _≤_, _<_}
 use mathlib.Core.Path.{_≡_, refl, sym, ap, _∙_}
 use mathlib.Core.Bool.{Bool, true, false, cond, _&&_, _||_}
@@ -8,27 +9,27 @@ use lib.Dec.{leb, eqb}
 use lib.ListN.{length, drop, length-drop}
 use lib.IntN.{ℤ, pos}
 use Rattle.definitions.specs.Refusal.{Checked, refuse, accept}
-use Rattle.definitions.specs.Bytes.{minText, isAt, blanks, lineEnding, untilEnding, begins, classOf, minus, semicolon, less, equals, greater, letterX, tilde}
+use Rattle.definitions.specs.Bytes.{minText, isAt, blanks, lineEnding, untilEnding, begins, classOf, minus, semicolon, less}
+use Rattle.definitions.specs.Bytes.{equals, greater, letterX, tilde}
 use Rattle.definitions.specs.Reader.{Got, none, got, Reader, more, chain, done, fail}
 use Rattle.definitions.specs.Number.{leading, value, number}
 use Rattle.definitions.specs.Literal.{index}
-use Rattle.definitions.specs.Walk.{stop, item, Walked, broken, items, walk, all, anywhere}
+use Rattle.definitions.specs.Walk.{stop, item, Walked, broken, items, all, anywhere}
 use Rattle.definitions.specs.Lists.{startsWith}
 use Rattle.definitions.specs.Limits.{weightLimit, inI64}
 use Rattle.definitions.specs.Row.{Term, Kind, Row, rowOf, Line, comment, row, termsOf, sizes}
-use Rattle.definitions.specs.Text.{gap, someBlanks, gap1, codeBy, digits, variable, literal, afterWeight, weighted, beginsTerm, asStep, termStep, asGot, sum, operator, closing, ending, Comparison, comparison, sized, constraint, minWord, minBlanks, goal, remark, asLine, statementBy, afterBlanks, statementAt, statement, spaceAfter}
+use Rattle.definitions.specs.Text.{gap, someBlanks, gap1, codeBy, digits, variable, literal, afterWeight, weighted}
+use Rattle.definitions.specs.Text.{beginsTerm, asStep, termStep, asGot, sum, operator, closing, ending, Comparison}
+use Rattle.definitions.specs.Text.{comparison, sized, constraint, minWord, minBlanks, goal, remark, asLine, statementBy}
+use Rattle.definitions.specs.Text.{afterBlanks, statementAt, statement, spaceAfter}
 use Rattle.definitions.specs.declared.Options.{Options}
 use Rattle.definitions.specs.declared.Beginning.{Beginning}
 use Rattle.definitions.specs.declared.Beginning.the-variants.{Comment, Objective, Constraint, Nothing}
+use Rattle.definitions.proofs.Truths.{never, cond-holds}
 use Rattle.definitions.proofs.Chains.{Within, within-chain, within-done, chain-linked}
 use Rattle.definitions.proofs.Walks.{Moves, all-ended, all-summed, total-one}
 use Rattle.definitions.proofs.Texts.{blanks-within, ending-within, until-within}
 use Rattle.definitions.proofs.Numbers.{number-within, leading-length}
-
--- a test picks what is got
-got-cond : {A : Type 0} (b : Bool) (x y : Got A) (P : Got A → Type 0) → P x → P y → P (cond b x y)
-got-cond true x y P p q = p
-got-cond false x y P p q = q
 
 -- ---- the smallest: what is got of n bytes has no more than there are
 abbrev Most : {A : Type 0} → List ℕ → Got A → Type 0
@@ -61,7 +62,8 @@ module _ (o : Options) where
   most-digits : (negative : Bool) (s : List ℕ) → Most s (digits o negative s)
   unfolding digits
   most-digits negative s =
-      got-cond (eqb (length (leading s)) 0) (none 4) (codeBy negative (length (leading s)) (index (o .first) (value (leading s)))) (Most s) tt
+      cond-holds (eqb (length (leading s)) 0) (none 4) (codeBy negative (length (leading s)) (index (o .first) (value (leading s))))
+      (Most s) tt
       (by (index (o .first) (value (leading s))))
     where
       by : (c : Checked ℕ) → Most s (codeBy negative (length (leading s)) c)
@@ -72,13 +74,14 @@ module _ (o : Options) where
   unfolding variable
   most-variable negative [] = tt
   most-variable negative (b ∷ s) =
-      got-cond (eqb b letterX) (more 1 (digits o negative s)) (none 4) (Most (b ∷ s)) (most-more b s (digits o negative s) (most-digits negative s)) tt
+      cond-holds (eqb b letterX) (more 1 (digits o negative s)) (none 4) (Most (b ∷ s))
+      (most-more b s (digits o negative s) (most-digits negative s)) tt
 
   most-literal : (s : List ℕ) → Most s (literal o s)
   unfolding literal
   most-literal [] = tt
   most-literal (b ∷ s) =
-      got-cond (eqb b tilde || eqb b minus) (more 1 (variable o true s)) (variable o false (b ∷ s)) (Most (b ∷ s))
+      cond-holds (eqb b tilde || eqb b minus) (more 1 (variable o true s)) (variable o false (b ∷ s)) (Most (b ∷ s))
       (most-more b s (variable o true s) (most-variable true s)) (most-variable false (b ∷ s))
 
   pub within-literal : Within (literal o)
@@ -86,7 +89,9 @@ module _ (o : Options) where
 
   pub within-after-weight : (w : ℤ) → Within (afterWeight o w)
   unfolding afterWeight
-  within-after-weight w = within-chain gap1 _ within-gap1 (λ _. within-chain (literal o) _ within-literal (λ c. within-chain gap _ within-gap (λ _. within-done _)))
+  within-after-weight w =
+      within-chain gap1 _ within-gap1
+      (λ _. within-chain (literal o) _ within-literal (λ c. within-chain gap _ within-gap (λ _. within-done _)))
 
   pub within-weighted : Within (weighted o)
   unfolding weighted
@@ -102,7 +107,7 @@ module _ (o : Options) where
 -- ---- a sum: a walk over terms
 module _ (o : Options) where
   as-step-item : {A : Type 0} (g : Got A) (a : A) (n : ℕ) → asStep g ≡ item a n → g ≡ got a n
-  as-step-item (none e) a n q = let z : _≡_ {A = ℕ} 0 1 = cc in absurd (omega arith)
+  as-step-item (none e) a n q = never cc
   as-step-item (got b m) a n q = let x : b ≡ a = cc in let y : m ≡ n = cc in cc
 
   pub term-step-item : (s : List ℕ) (t : Term) (n : ℕ) → termStep o s ≡ item t n → weighted o s ≡ got t n
@@ -111,7 +116,7 @@ module _ (o : Options) where
     where
       by : (b : Bool) → beginsTerm s ≡ b → weighted o s ≡ got t n
       by true q = as-step-item (weighted o s) t n (sym (rw (q, termStep)) ∙ e)
-      by false q = let c : stop ≡ item t n = sym (rw (q, termStep)) ∙ e in let z : _≡_ {A = ℕ} 0 1 = cc in absurd (omega arith)
+      by false q = let c : stop ≡ item t n = sym (rw (q, termStep)) ∙ e in never cc
 
   pub term-moves : Moves (termStep o)
   term-moves =
@@ -129,30 +134,31 @@ module _ (o : Options) where
   sum-within s ts n e = by (all (termStep o) anywhere s) refl
     where
       by : (w : Walked Term) → all (termStep o) anywhere s ≡ w → (n ≤ length s) × (length ts ≤ n)
-      by (broken r) q = let c : none (r .number) ≡ got ts n = ap asGot (sym q) ∙ e in let z : _≡_ {A = ℕ} 0 1 = cc in absurd (omega arith)
+      by (broken r) q = let c : none (r .number) ≡ got ts n = ap asGot (sym q) ∙ e in never cc
       by (items xs m) q =
           let c : got xs m ≡ got ts n = ap asGot (sym q) ∙ e in
           let x : xs ≡ ts = cc in
           let y : m ≡ n = cc in
           let f : all (termStep o) anywhere s ≡ items ts n = cc in (
             all-ended (termStep o) anywhere (λ _. Unit {0}) (λ _ _ _ _ _. tt) s ts n f .0,
-            omega (arith, all-summed (termStep o) anywhere term-moves (λ _. 1) (λ s' t k at i. term-moves .least s' t k i) s ts n f, total-one ts),
+            omega (
+              arith,
+              all-summed (termStep o) anywhere term-moves (λ _. 1) (λ s' t k at i. term-moves .least s' t k i) s ts n f,
+              total-one ts,
+            ),
           )
-
-  pub within-sum : Within (sum o)
-  within-sum = record { most = λ s ts n e. sum-within s ts n e .0 }
 
 -- ---- operator, ending, comparison
 most-operator : (s : List ℕ) → Most s (operator s)
 unfolding operator
 most-operator [] = tt
 most-operator (b ∷ s) =
-    got-cond (eqb b less) _ _ (Most (b ∷ s)) (two s _ _)
-    (got-cond (eqb b greater) _ _ (Most (b ∷ s)) (two s _ _) (got-cond (eqb b equals) _ _ (Most (b ∷ s)) (omega arith) tt))
+    cond-holds (eqb b less) _ _ (Most (b ∷ s)) (two s _ _)
+    (cond-holds (eqb b greater) _ _ (Most (b ∷ s)) (two s _ _) (cond-holds (eqb b equals) _ _ (Most (b ∷ s)) (omega arith) tt))
   where
     two : {A : Type 0} (s : List ℕ) (p q : A) → Most (b ∷ s) (cond (isAt equals s) (got p 2) (got q 1))
     two [] p q = unfold isAt in omega arith
-    two (c ∷ s) p q = got-cond (isAt equals (c ∷ s)) (got p 2) (got q 1) (Most (b ∷ c ∷ s)) (omega arith) (omega arith)
+    two (c ∷ s) p q = cond-holds (isAt equals (c ∷ s)) (got p 2) (got q 1) (Most (b ∷ c ∷ s)) (omega arith) (omega arith)
 
 -- an operator and `min:` have a byte
 abbrev Least : {A : Type 0} → Got A → Type 0
@@ -163,13 +169,13 @@ least-operator : (s : List ℕ) → Least (operator s)
 unfolding operator
 least-operator [] = tt
 least-operator (b ∷ s) =
-    got-cond (eqb b less) _ _ Least (got-cond (isAt equals s) (got _ 2) (got _ 1) Least (omega arith) (omega arith))
-    (got-cond (eqb b greater) _ _ Least (got-cond (isAt equals s) (got _ 2) (got _ 1) Least (omega arith) (omega arith))
-    (got-cond (eqb b equals) _ _ Least (omega arith) tt))
+    cond-holds (eqb b less) _ _ Least (cond-holds (isAt equals s) (got _ 2) (got _ 1) Least (omega arith) (omega arith))
+    (cond-holds (eqb b greater) _ _ Least (cond-holds (isAt equals s) (got _ 2) (got _ 1) Least (omega arith) (omega arith))
+    (cond-holds (eqb b equals) _ _ Least (omega arith) tt))
 
 least-min-word : (s : List ℕ) → Least (minWord s)
 unfolding minWord
-least-min-word s = got-cond (startsWith minText s) (got 0 (length minText)) (none 2) Least (omega arith) tt
+least-min-word s = cond-holds (startsWith minText s) (got 0 (length minText)) (none 2) Least (omega arith) tt
 
 pub within-operator : Within operator
 within-operator = most-within operator most-operator
@@ -178,7 +184,7 @@ most-closing : (s : List ℕ) → Most s (closing s)
 unfolding closing
 most-closing [] = omega arith
 most-closing (b ∷ s) =
-    got-cond (eqb b semicolon) _ _ (Most (b ∷ s))
+    cond-holds (eqb b semicolon) _ _ (Most (b ∷ s))
     (omega (arith, blanks-within s, ending-within (drop (blanks s) s), length-drop (blanks s) s))
     (by (lineEnding (b ∷ s)) (ending-within (b ∷ s)))
   where
@@ -196,7 +202,9 @@ within-ending = within-chain gap (λ _. closing) within-gap (λ _. within-closin
 pub within-comparison : Within comparison
 unfolding comparison
 within-comparison =
-    within-chain operator _ within-operator (λ p. within-chain gap _ within-gap (λ _. within-chain number _ within-number (λ b. within-chain ending _ within-ending (λ _. within-done _))))
+    within-chain operator _ within-operator
+    (λ p. within-chain gap _ within-gap
+    (λ _. within-chain number _ within-number (λ b. within-chain ending _ within-ending (λ _. within-done _))))
 
 -- ---- rows
 pub sized-got : (k : Kind) (b : ℤ) (ts : List Term) (s : List ℕ) (r : Row) (n : ℕ) → sized k b ts s ≡ got r n → (r ≡ rowOf k b ts) × (n ≡ 0)
@@ -205,17 +213,17 @@ sized-got k b ts s r n e = by (leb (sizes ts) weightLimit && inI64 b) refl
   where
     by : (x : Bool) → (leb (sizes ts) weightLimit && inI64 b) ≡ x → (r ≡ rowOf k b ts) × (n ≡ 0)
     by true q = let c : got (rowOf k b ts) 0 ≡ got r n = sym (rw q) ∙ e in (cc, cc)
-    by false q = let c : none 8 ≡ got r n = sym (rw q) ∙ e in let z : _≡_ {A = ℕ} 0 1 = cc in absurd (omega arith)
+    by false q = let c : none 8 ≡ got r n = sym (rw q) ∙ e in never cc
 
 starts-within : (w s : List ℕ) → startsWith w s ≡ true → length w ≤ length s
 unfolding startsWith
 starts-within [] s e = omega arith
-starts-within (p ∷ w) [] e = let z : _≡_ {A = ℕ} 0 1 = cc in absurd (omega arith)
+starts-within (p ∷ w) [] e = never cc
 starts-within (p ∷ w) (b ∷ s) e = by (eqb b p) e (λ q. starts-within w s q)
   where
     by : (x : Bool) → x && startsWith w s ≡ true → (startsWith w s ≡ true → length w ≤ length s) → length (p ∷ w) ≤ length (b ∷ s)
     by true q f = omega (arith, f q)
-    by false q f = let z : _≡_ {A = ℕ} 0 1 = cc in absurd (omega arith)
+    by false q f = never cc
 
 most-min-word : (s : List ℕ) → Most s (minWord s)
 unfolding minWord
@@ -283,7 +291,7 @@ module _ (o : Options) (s : List ℕ) (r : Row) (n : ℕ) where
 -- ---- comments
 pub remark-taken : (s : List ℕ) (l : Line) (n : ℕ) → remark s ≡ got l n → (0 < n) × (n ≤ length s) × (termsOf l ≡ [])
 unfolding remark
-remark-taken [] l n e = let z : _≡_ {A = ℕ} 0 1 = cc in absurd (omega arith)
+remark-taken [] l n e = never cc
 remark-taken (b ∷ s) l n e =
     let m : 1 + untilEnding s + lineEnding (drop (untilEnding s) s) ≡ n = cc in
     let c : comment (1 + spaceAfter s) (untilEnding s - spaceAfter s) (pos 0) ≡ l = cc in
@@ -297,7 +305,8 @@ module _ (o : Options) where
     pub within : n ≤ length s
     pub terms : length (termsOf l) ≤ n
 
-  row-taken : (p : Reader Row) (s : List ℕ) (l : Line) (n : ℕ) → ((r : Row) (m : ℕ) → p s ≡ got r m → RowTaken s r m) → chain p asLine s ≡ got l n → LineTaken s l n
+  row-taken : (p : Reader Row) (s : List ℕ) (l : Line) (n : ℕ) → ((r : Row) (m : ℕ) → p s ≡ got r m → RowTaken s r m)
+      → chain p asLine s ≡ got l n → LineTaken s l n
   unfolding done
   row-taken p s l n f e =
       let k = chain-linked p asLine s l n e in
@@ -319,11 +328,12 @@ module _ (o : Options) where
       record { least = t .0; within = t .1; terms = rw (t .2) (omega arith) }
   statement-by-taken Objective s l n e = row-taken (goal o) s l n (λ r m q. goal-taken o s r m q) e
   statement-by-taken Constraint s l n e = row-taken (constraint o) s l n (λ r m q. constraint-taken o s r m q) e
-  statement-by-taken Nothing s l n e = let z : _≡_ {A = ℕ} 0 1 = cc in absurd (omega arith)
+  statement-by-taken Nothing s l n e = never cc
 
-  after-blanks-item : (k : ℕ) (g : Got Line) (s : List ℕ) (l : Line) (n : ℕ) → ((l' : Line) (m : ℕ) → g ≡ got l' m → LineTaken s l' m) → afterBlanks k g ≡ item l n
+  after-blanks-item : (k : ℕ) (g : Got Line) (s : List ℕ) (l : Line) (n : ℕ) → ((l' : Line) (m : ℕ) → g ≡ got l' m → LineTaken s l' m)
+      → afterBlanks k g ≡ item l n
       → (0 < n) × (n ≤ k + length s) × (length (termsOf l) ≤ n)
-  after-blanks-item k (none x) s l n f e = let z : _≡_ {A = ℕ} 0 1 = cc in absurd (omega arith)
+  after-blanks-item k (none x) s l n f e = never cc
   after-blanks-item k (got (comment a b c) m) s l n f e =
       let t = f (comment a b c) m refl in
       let x : comment (k + a) b c ≡ l = cc in
@@ -335,9 +345,10 @@ module _ (o : Options) where
       let y : k + m ≡ n = cc in
       (omega arith, omega arith, rw (← x) (omega arith))
 
-  statement-at-item : (k : ℕ) (s : List ℕ) (l : Line) (n : ℕ) → statementAt o k s ≡ item l n → (0 < n) × (n ≤ k + length s) × (length (termsOf l) ≤ n)
+  statement-at-item : (k : ℕ) (s : List ℕ) (l : Line) (n : ℕ) → statementAt o k s ≡ item l n
+      → (0 < n) × (n ≤ k + length s) × (length (termsOf l) ≤ n)
   unfolding statementAt
-  statement-at-item k [] l n e = let z : _≡_ {A = ℕ} 0 1 = cc in absurd (omega arith)
+  statement-at-item k [] l n e = never cc
   statement-at-item k (b ∷ s) l n e =
       after-blanks-item k (statementBy (begins (classOf b)) o (b ∷ s)) (b ∷ s) l n (statement-by-taken (begins (classOf b)) (b ∷ s)) e
 

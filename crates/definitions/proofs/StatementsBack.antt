@@ -29,14 +29,18 @@ module _ (o : Options) where
   begun-is-constraint [] e = absurd (one-truth false e refl)
   begun-is-constraint (b ∷ s) e = rw (begun-no-blank (b ∷ s) e) (rw (digit-or-sign-begins b e))
 
-  pub constraint-statement : (x rest : List ℕ) (r : Row) → beginsTerm (x ++ rest) ≡ true → Reads (constraint o) x rest r → statement o (x ++ rest) ≡ item (row r) (length x)
+  pub constraint-statement : (x rest : List ℕ) (r : Row) → beginsTerm (x ++ rest) ≡ true → Reads (constraint o) x rest r
+      → statement o (x ++ rest) ≡ item (row r) (length x)
   constraint-statement x rest r e c =
-      begun-is-constraint (x ++ rest) e ∙ ap (afterBlanks 0) (reads-end asLine x c (reads-done (row r) rest) .reads) ∙ ap (item (row r)) (zero-add (length x))
+      begun-is-constraint (x ++ rest) e ∙ ap (afterBlanks 0) (reads-end asLine x c (reads-done (row r) rest) .reads)
+      ∙ ap (item (row r)) (zero-add (length x))
 
-  pub goal-statement : (x rest : List ℕ) (r : Row) → Reads (goal o) (letterM ∷ x) rest r → statement o ((letterM ∷ x) ++ rest) ≡ item (row r) (length (letterM ∷ x))
+  pub goal-statement : (x rest : List ℕ) (r : Row) → Reads (goal o) (letterM ∷ x) rest r
+      → statement o ((letterM ∷ x) ++ rest) ≡ item (row r) (length (letterM ∷ x))
   unfolding statement statementAt blanks classOf
   goal-statement x rest r c =
-      ap (afterBlanks 0) (reads-end asLine (letterM ∷ x) c (reads-done (row r) rest) .reads) ∙ ap (item (row r)) (zero-add (length (letterM ∷ x)))
+      ap (afterBlanks 0) (reads-end asLine (letterM ∷ x) c (reads-done (row r) rest) .reads)
+      ∙ ap (item (row r)) (zero-add (length (letterM ∷ x)))
 
 -- ---- comments: where a line without an LF in it ends
 
@@ -73,15 +77,23 @@ line-ends (b ∷ []) rest e = unfold untilEnding lineEnding withoutCr isAt in by
     clear = not-true (eqb b lf) (both (not (eqb b lf)) true e .0)
 
     by : (t : Bool) → eqb b cr ≡ t → Ends (b ∷ []) rest
-    by true q = unfold untilEnding lineEnding withoutCr isAt in record { until = rw (clear, q, untilEnding); all = rw (clear, q, untilEnding, clear, q) }
-    by false q = unfold untilEnding lineEnding withoutCr isAt in record { until = rw (clear, q, untilEnding); all = rw (clear, q, untilEnding) }
+    by true q = unfold untilEnding lineEnding withoutCr isAt in record {
+      until = rw (clear, q, untilEnding);
+      all = rw (clear, q, untilEnding, clear, q);
+    }
+    by false q = unfold untilEnding lineEnding withoutCr isAt in record {
+      until = rw (clear, q, untilEnding);
+      all = rw (clear, q, untilEnding);
+    }
 line-ends (b ∷ c ∷ y) rest e =
     let h = both (not (eqb b lf)) (oneLine (c ∷ y)) e in
-    ends-more b c y rest (not-true (eqb b lf) (h .0)) (not-true (eqb c lf) (both (not (eqb c lf)) (oneLine y) (h .1) .0)) (line-ends (c ∷ y) rest (h .1))
+    ends-more b c y rest (not-true (eqb b lf) (h .0)) (not-true (eqb c lf) (both (not (eqb c lf)) (oneLine y) (h .1) .0))
+    (line-ends (c ∷ y) rest (h .1))
 
 -- `*`, a text and an LF
 pub reads-comment : (y rest : List ℕ) → oneLine y ≡ true
-    → Reads remark (star ∷ (y ++ (lf ∷ []))) rest (comment (1 + spaceAfter (y ++ (lf ∷ rest))) (length (withoutCr y) - spaceAfter (y ++ (lf ∷ rest))) (pos 0))
+    → Reads remark (star ∷ (y ++ (lf ∷ []))) rest
+    (comment (1 + spaceAfter (y ++ (lf ∷ rest))) (length (withoutCr y) - spaceAfter (y ++ (lf ∷ rest))) (pos 0))
 unfolding remark
 reads-comment y rest e =
     let t = line-ends y rest e in
@@ -90,7 +102,9 @@ reads-comment y rest e =
     record { reads = rw (append-assoc y (lf ∷ []) rest, t .until, n) }
 
 pub comment-statement : (o : Options) (y rest : List ℕ) → oneLine y ≡ true
-    → statement o ((star ∷ (y ++ (lf ∷ []))) ++ rest) ≡ item (comment (1 + spaceAfter (y ++ (lf ∷ rest))) (length (withoutCr y) - spaceAfter (y ++ (lf ∷ rest))) (pos 0)) (length (star ∷ (y ++ (lf ∷ []))))
+    → statement o ((star ∷ (y ++ (lf ∷ []))) ++ rest)
+    ≡ item (comment (1 + spaceAfter (y ++ (lf ∷ rest))) (length (withoutCr y) - spaceAfter (y ++ (lf ∷ rest))) (pos 0))
+    (length (star ∷ (y ++ (lf ∷ []))))
 unfolding statement statementAt blanks classOf
 comment-statement o y rest e =
     let k = 1 + spaceAfter (y ++ (lf ∷ rest)) in
@@ -104,7 +118,8 @@ space-longer [] = refl
 space-longer (b ∷ t) = omega arith
 
 -- a comment as it is written, with a space behind the `*`
-pub remark-statement : (o : Options) (t rest : List ℕ) → oneLine t ≡ true → statement o (remarkText t ++ rest) ≡ item (comment 2 (length (withoutCr t)) (pos 0)) (length (remarkText t))
+pub remark-statement : (o : Options) (t rest : List ℕ) → oneLine t ≡ true
+    → statement o (remarkText t ++ rest) ≡ item (comment 2 (length (withoutCr t)) (pos 0)) (length (remarkText t))
 unfolding remarkText isAt oneLine
 remark-statement o t rest e =
     comment-statement o (space ∷ t) rest e ∙ ap (λ (n : ℕ). item (comment 2 n (pos 0)) (length (remarkText t))) (space-longer t)

@@ -2,10 +2,10 @@
 use Prim.Native.Nat.{ℕ, _<_}
 use mathlib.Core.Path.{_≡_, refl}
 use mathlib.Core.Bool.{Bool, true, false}
-use mathlib.Core.List.{List, [], _∷_}
+use mathlib.Core.List.{List, [], _∷_, _++_}
 use native.Mathlib.Omega.{arith}
-use lib.ListN.{length, take, drop, length-drop}
-use lib.Seq.{take-all}
+use lib.ListN.{length, take, drop, length-drop, take-append-drop}
+use lib.Seq.{take-all, length-take-le}
 use Rattle.definitions.specs.Lists.{AllOf}
 use Rattle.definitions.specs.Bytes.{isBlank, blanks, begins, classOf}
 use Rattle.definitions.specs.Reader.{Got, none, got}
@@ -14,6 +14,8 @@ use Rattle.definitions.specs.Row.{Line, comment, row}
 use Rattle.definitions.specs.Text.{statementBy, afterBlanks, statementAt, statement}
 use Rattle.definitions.specs.Pieces.{Blank}
 use Rattle.definitions.specs.declared.Options.{Options}
+use Rattle.definitions.proofs.Texts.{blanks-within}
+use Rattle.definitions.proofs.Truths.{never}
 
 pub all-blank : (s : List ℕ) → AllOf Blank (take (blanks s) s)
 unfolding blanks
@@ -25,14 +27,14 @@ all-blank (b ∷ s) = by (isBlank b) refl (all-blank s)
     by false e h = rw (e, blanks) tt
 
 after-is-no-stop : (k : ℕ) (g : Got Line) → afterBlanks k g ≡ stop → ⊥
-after-is-no-stop k (none e) q = let z : _≡_ {A = ℕ} 0 1 = cc in omega arith
-after-is-no-stop k (got (comment f n b) m) q = let z : _≡_ {A = ℕ} 0 1 = cc in omega arith
-after-is-no-stop k (got (row r) m) q = let z : _≡_ {A = ℕ} 0 1 = cc in omega arith
+after-is-no-stop k (none e) q = never cc
+after-is-no-stop k (got (comment f n b) m) q = never cc
+after-is-no-stop k (got (row r) m) q = never cc
 
 after-is-bad : (k : ℕ) (g : Got Line) (n j : ℕ) → afterBlanks k g ≡ bad n j → j ≡ k
 after-is-bad k (none e) n j q = cc
-after-is-bad k (got (comment f i b) m) n j q = let z : _≡_ {A = ℕ} 0 1 = cc in absurd (omega arith)
-after-is-bad k (got (row r) m) n j q = let z : _≡_ {A = ℕ} 0 1 = cc in absurd (omega arith)
+after-is-bad k (got (comment f i b) m) n j q = never cc
+after-is-bad k (got (row r) m) n j q = never cc
 
 module _ (o : Options) where
   nothing-left : (k : ℕ) (s : List ℕ) → statementAt o k s ≡ stop → length s ≡ 0
@@ -42,7 +44,7 @@ module _ (o : Options) where
 
   something-left : (k : ℕ) (s : List ℕ) (n j : ℕ) → statementAt o k s ≡ bad n j → (0 < length s) × (j ≡ k)
   unfolding statementAt
-  something-left k [] n j e = let z : _≡_ {A = ℕ} 0 1 = cc in absurd (omega arith)
+  something-left k [] n j e = never cc
   something-left k (b ∷ s) n j e = (omega arith, after-is-bad k (statementBy (begins (classOf b)) o (b ∷ s)) n j e)
 
   -- where nothing is found, there are blanks alone
@@ -58,3 +60,24 @@ module _ (o : Options) where
   bad-is-behind s n k e =
       let h = something-left (blanks s) (drop (blanks s) s) n k e in
       (h .1, omega (arith, h .0, length-drop (blanks s) s))
+
+  -- the text there: blanks, and what is refused behind them
+  pub record Parted (s : List ℕ) (k : ℕ) : Type 0 where
+    pub gap : List ℕ
+    pub behind : List ℕ
+    pub seam : gap ++ behind ≡ s
+    pub blank : AllOf Blank gap
+    pub size : length gap ≡ k
+    pub short : k < length s
+
+  pub bad-parted : (s : List ℕ) (n k : ℕ) → statement o s ≡ bad n k → Parted s k
+  bad-parted s n k e =
+      let b = bad-is-behind s n k e in
+      record {
+        gap = take (blanks s) s;
+        behind = drop (blanks s) s;
+        seam = take-append-drop (blanks s) s;
+        blank = all-blank s;
+        size = omega (arith, b .0, length-take-le (blanks s) s (blanks-within s));
+        short = omega (arith, b .0, b .1);
+      }

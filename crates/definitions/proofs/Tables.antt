@@ -1,32 +1,39 @@
--- A table that lines were filled into holds these lines: its rows, taken as the normaliser, the evaluator and the writer take them, are the lines again.
+-- Does a table hold the lines that were filled into it? Its rows, taken as the normaliser, the evaluator and the writer take them,
+-- are the lines again.
 use Prim.Native.Nat.{ℕ, _+_, _≤_}
 use mathlib.Core.Path.{_≡_, refl, sym, ap, _∙_}
 use mathlib.Core.Bool.{true}
 use mathlib.Core.List.{List, [], _∷_, _++_, map, append-assoc}
 use native.Mathlib.Omega.{arith}
 use borrow.Author.Tests.{le-leb}
-use lib.ListN.{length, take, drop, length-append, length-map, length-drop}
+use lib.ListN.{length, take, drop, length-append, length-map}
 use lib.Seq.{take-append-seam, drop-append-seam}
 use lib.IntN.{ℤ}
-use Rattle.definitions.specs.Lists.{over, joined, AllOf}
-use Rattle.definitions.specs.Refusal.{Checked, refuse, accept}
+use Rattle.definitions.specs.Lists.{joined, AllOf}
+use Rattle.definitions.specs.Refusal.{accept}
 use Rattle.definitions.specs.Row.{Term, weightOf, literalOf, Kind, atLeast, atMost, equal, objective, Line, comment, row, termsOf}
-use Rattle.definitions.specs.Table.{Table, table, termRoom, Outcome, refused, accepted, kindNumber, kindIn, firstIn, countIn, boundIn, firstsFrom, allTerms, filled, Entry, entriesOf, entries, termsOn, termsAt, inColumn, indexed, weighted, remark, sortOf, onRow, rowByRow, andThen, lineIn}
+use Rattle.definitions.specs.Table.{Table, termRoom, accepted, kindNumber, kindIn, firstIn, countIn, boundIn, firstsFrom}
+use Rattle.definitions.specs.Table.{allTerms, filled, Entry, entriesOf, entries, termsOn, termsAt, inColumn, indexed}
+use Rattle.definitions.specs.Table.{weighted, remark, sortOf, rowByRow, lineIn}
 use Rattle.definitions.specs.Write.{numbered}
 use Rattle.definitions.specs.House.{listedLine, listedEntry}
+use Rattle.definitions.proofs.Each.{each-so}
+use Rattle.definitions.proofs.Columns.{over-length, rows-again}
+
+-- the entry of a line with m terms before it
+abbrev pub entryFor : ℕ → Line → Entry
+entryFor m l = record { kind = kindIn l; first = firstIn m l; count = countIn l; bound = boundIn l }
 
 -- the entries of lines, the first of which has m terms before it
 unfoldable pub entriesFor : ℕ → List Line → List Entry
 entriesFor m [] = []
-entriesFor m (l ∷ ls) = record { kind = kindIn l; first = firstIn m l; count = countIn l; bound = boundIn l } ∷ entriesFor (m + length (termsOf l)) ls
+entriesFor m (l ∷ ls) = entryFor m l ∷ entriesFor (m + length (termsOf l)) ls
 
 entries-front : (m : ℕ) (ls : List Line) (k f n : List ℕ) (b : List ℤ)
     → take (length ls) (entriesOf (map kindIn ls ++ k) (firstsFrom m ls ++ f) (map countIn ls ++ n) (map boundIn ls ++ b)) ≡ entriesFor m ls
 unfolding entriesOf entriesFor firstsFrom
 entries-front m [] k f n b = refl
-entries-front m (l ∷ ls) k f n b =
-    let e : Entry = record { kind = kindIn l; first = firstIn m l; count = countIn l; bound = boundIn l } in
-    ap (λ (es : List Entry). e ∷ es) (entries-front (m + length (termsOf l)) ls k f n b)
+entries-front m (l ∷ ls) k f n b = ap (λ (es : List Entry). entryFor m l ∷ es) (entries-front (m + length (termsOf l)) ls k f n b)
 
 pub filled-entries : (ls : List Line) (t : Table) → take (length ls) (entries (filled ls t)) ≡ entriesFor 0 ls
 unfolding filled
@@ -40,9 +47,6 @@ terms-front (t ∷ ts) w c = ap (λ (l : List Term). t ∷ l) (terms-front ts w 
 
 terms-between : (pre ts post : List Term) → take (length ts) (drop (length pre) ((pre ++ (ts ++ post)))) ≡ ts
 terms-between pre ts post = rw (drop-append-seam pre (ts ++ post), take-append-seam ts post)
-
-over-length : {A : Type 0} (xs l : List A) → length xs ≤ length l → length (over xs l) ≡ length l
-over-length xs l h = rw (length-append, length-drop (length xs) l) (omega arith)
 
 -- every index within its limit
 abbrev pub Indexed : Line → Type 0
@@ -59,20 +63,29 @@ module _ (all : List Line) (t : Table) (room : length (allTerms all) ≤ termRoo
       let n = length (allTerms all) in
       let w = length-map (allTerms all) weightOf in
       let c = length-map (allTerms all) literalOf in
-      rw (over-length (map weightOf (allTerms all)) (t .weights) (omega (arith, w)), over-length (map literalOf (allTerms all)) (t .literals) (omega (arith, c)))
+      rw (
+        over-length (map weightOf (allTerms all)) (t .weights) (omega (arith, w)),
+        over-length (map literalOf (allTerms all)) (t .literals) (omega (arith, c)),
+      )
 
-  filled-terms : termsOn (filled all t .weights) (filled all t .literals) ≡ allTerms all ++ termsOn (drop (length (map weightOf (allTerms all))) (t .weights)) (drop (length (map literalOf (allTerms all))) (t .literals))
+  filled-terms : termsOn (filled all t .weights) (filled all t .literals)
+      ≡ allTerms all ++ termsOn (drop (length (map weightOf (allTerms all))) (t .weights))
+      (drop (length (map literalOf (allTerms all))) (t .literals))
   unfolding filled
   filled-terms = terms-front (allTerms all) _ _
 
   -- a row of k terms, with the terms pre before it
-  filled-terms-at : (pre ts post : List Term) (e : Entry) → allTerms all ≡ pre ++ (ts ++ post) → e .first ≡ length pre → e .count ≡ length ts → termsAt (filled all t) e ≡ ts
+  filled-terms-at : (pre ts post : List Term) (e : Entry) → allTerms all ≡ pre ++ (ts ++ post) → e .first ≡ length pre
+      → e .count ≡ length ts → termsAt (filled all t) e ≡ ts
   filled-terms-at pre ts post e q f n =
-      let rest = termsOn (drop (length (map weightOf (allTerms all))) (t .weights)) (drop (length (map literalOf (allTerms all))) (t .literals)) in
+      let rest = termsOn (drop (length (map weightOf (allTerms all))) (t .weights))
+      (drop (length (map literalOf (allTerms all))) (t .literals)) in
       let at : List Term → List Term = λ (l : List Term). take (e .count) (drop (e .first) l) in
-      ap at filled-terms ∙ ap (λ (l : List Term). at (l ++ rest)) q ∙ rw (f, n, append-assoc pre (ts ++ post) rest, append-assoc ts post rest) (terms-between pre ts (post ++ rest))
+      ap at filled-terms ∙ ap (λ (l : List Term). at (l ++ rest)) q
+      ∙ rw (f, n, append-assoc pre (ts ++ post) rest, append-assoc ts post rest) (terms-between pre ts (post ++ rest))
 
-  filled-in-column : (pre ts post : List Term) (e : Entry) → allTerms all ≡ pre ++ (ts ++ post) → e .first ≡ length pre → e .count ≡ length ts → inColumn (filled all t) e ≡ true
+  filled-in-column : (pre ts post : List Term) (e : Entry) → allTerms all ≡ pre ++ (ts ++ post) → e .first ≡ length pre
+      → e .count ≡ length ts → inColumn (filled all t) e ≡ true
   filled-in-column pre ts post e q f n =
       le-leb (e .first + e .count) (termRoom (filled all t))
       (omega (arith, filled-term-room, room, ap length q, length-append pre (ts ++ post), length-append ts post))
@@ -89,7 +102,7 @@ module _ (all : List Line) (t : Table) (room : length (allTerms all) ≤ termRoo
   sort-of-comment = refl
 
   line-back : (pre : List Term) (l : Line) (post : List Term) → Indexed l → allTerms all ≡ pre ++ (termsOf l ++ post)
-      → lineIn (filled all t) (record { kind = kindIn l; first = firstIn (length pre) l; count = countIn l; bound = boundIn l }) ≡ accept l
+      → lineIn (filled all t) (entryFor (length pre) l) ≡ accept l
   unfolding lineIn
   line-back pre (comment f n b) post i q = rw sort-of-comment
   line-back pre (row r) post i q =
@@ -116,21 +129,10 @@ numbered-listed : (first : ℕ) (l : Line) → Numbered first l → listedLine f
 numbered-listed first (comment f n b) h = refl
 numbered-listed first (row r) h = rw h
 
-rows-listed : (first : ℕ) (t : Table) (i : ℕ) (es : List Entry) (ls : List Line) → rowByRow (lineIn t) i es ≡ accepted ls → AllOf (Numbered first) ls → rowByRow (listedEntry first t) i es ≡ accepted ls
-unfolding rowByRow listedEntry
-rows-listed first t i [] ls e h = e
-rows-listed first t i (a ∷ es) ls e h = by (lineIn t a) (rowByRow (lineIn t) (i + 1) es) e (λ ks q g. rows-listed first t (i + 1) es ks q g)
-  where
-    by : (c : Checked Line) (x : Outcome (List Line)) → onRow i c x ≡ accepted ls
-        → ((ks : List Line) → x ≡ accepted ks → AllOf (Numbered first) ks → rowByRow (listedEntry first t) (i + 1) es ≡ accepted ks)
-        → onRow i (andThen c (listedLine first)) (rowByRow (listedEntry first t) (i + 1) es) ≡ accepted ls
-    by (refuse n) x e ih = let z : _≡_ {A = ℕ} 0 1 = cc in absurd (omega arith)
-    by (accept l) (refused r) e ih = let z : _≡_ {A = ℕ} 0 1 = cc in absurd (omega arith)
-    by (accept l) (accepted ks) e ih =
-        let q : ls ≡ l ∷ ks = cc in
-        let g = rw q at h in
-        rw (numbered-listed first l (g .0), ih ks refl (g .1)) (ap accepted (sym q))
-
-pub filled-listed : (first : ℕ) (ls : List Line) (t : Table) (room : length (allTerms ls) ≤ termRoom t) → AllOf Indexed ls → AllOf (Numbered first) ls
+pub filled-listed : (first : ℕ) (ls : List Line) (t : Table) (room : length (allTerms ls) ≤ termRoom t) → AllOf Indexed ls
+    → AllOf (Numbered first) ls
     → rowByRow (listedEntry first (filled ls t)) 0 (take (length ls) (entries (filled ls t))) ≡ accepted ls
-filled-listed first ls t room g h = rows-listed first (filled ls t) 0 (take (length ls) (entries (filled ls t))) ls (filled-back ls t room g) h
+unfolding listedEntry
+filled-listed first ls t room g h =
+    rows-again (lineIn (filled ls t)) (listedLine first) 0 (take (length ls) (entries (filled ls t))) ls (filled-back ls t room g)
+    (each-so (Numbered first) (λ (l : Line). listedLine first l ≡ accept l) (numbered-listed first) ls h)

@@ -1,25 +1,28 @@
--- There and back: take any table whose rows the writer accepts, in either literal mode. If the written file is within the length limit and the tables have room, reading it with
--- the same first index succeeds; constraints and objectives come back one for one, in order; for every assignment each constraint holds exactly when the original held, and each
--- objective's value plus the offset printed for it (zero where none is) equals the original value with its own offset. All sums are exact whole numbers. (An assignment gives every
--- variable a value, so each covers the rows' variables. specs/Back.antt has the words.)
+-- Do rows come back that are written and read again? Take any table whose rows the writer accepts, in either literal mode. If the
+-- written file is within the length limit and the tables have room, reading it with the same first index succeeds; constraints and
+-- objectives come back one for one, in order; for every assignment each constraint holds exactly when the original held, and each
+-- objective's value plus the offset printed for it (zero where none is) equals the original value with its own offset. All sums
+-- are exact whole numbers. (An assignment gives every variable a value, so each covers the rows' variables. specs/Back.antt has
+-- the words.)
 use Prim.Native.Nat.{ℕ, _≤_}
 use mathlib.Core.Path.{_≡_, ap, _∙_}
 use mathlib.Core.List.{List}
-use borrow.Author.Tests.{le-leb}
 use lib.ListN.{length}
 use Rattle.definitions.specs.Lists.{joined, total}
 use Rattle.definitions.specs.Limits.{fileLimit}
 use Rattle.definitions.specs.Row.{Line}
 use Rattle.definitions.specs.Table.{Table, accepted, allTerms, rowRoom, termRoom, entries, rowByRow, fitted}
-use Rattle.definitions.specs.File.{linesOf, file, reading}
+use Rattle.definitions.specs.File.{reading}
 use Rattle.definitions.specs.Write.{Item, itemText, writtenIn, writing}
 use Rattle.definitions.specs.Back.{optionsOf, Paired, rowsAsked, rowsIn, Means, linesBack, termsBack, Back}
 use Rattle.definitions.specs.declared.Mode.{Mode}
-use Rattle.definitions.proofs.Accepted.{WritableItem, rows-accepted, item-writable}
-use Rattle.definitions.proofs.ItemsBack.{linesFrom, written-statements}
+use Rattle.definitions.proofs.Asked.{writing-asked, asked-writable}
+use Rattle.definitions.proofs.Columns.{fitted-all}
+use Rattle.definitions.proofs.ItemsBack.{linesFrom, written-file}
 use Rattle.definitions.proofs.CountsBack.{lines-back, terms-back}
-use Rattle.definitions.proofs.MeansBack.{writing-asked, groupsFrom, groups-lines, items-back, rows-back}
+use Rattle.definitions.proofs.MeansBack.{groupsFrom, groups-lines, items-back, rows-back}
 
+-- what is said of the file s that is written of the table t in the mode m, with the lent comment text
 pub record ThereAndBack (m : Mode) (t : Table) (text s : List ℕ) : Type 0 where
   -- what was asked for, one item for each row of the table, all accepted
   pub items : List Item
@@ -31,7 +34,8 @@ pub record ThereAndBack (m : Mode) (t : Table) (text s : List ℕ) : Type 0 wher
   -- reading refuses nothing but a table without room (9, 10)
   pub read : length s ≤ fileLimit → (T : Table) → reading (optionsOf m) s T ≡ fitted T (accepted lines)
   -- so it succeeds where there is room
-  pub succeeds : length s ≤ fileLimit → (T : Table) → length lines ≤ rowRoom T → length (allTerms lines) ≤ termRoom T → reading (optionsOf m) s T ≡ accepted lines
+  pub succeeds : length s ≤ fileLimit → (T : Table) → length lines ≤ rowRoom T → length (allTerms lines) ≤ termRoom T
+      → reading (optionsOf m) s T ≡ accepted lines
   -- of each item a line, one more for each offset, and its terms as many as they are
   pub many : length lines ≡ total (linesBack m) items
   pub terms : length (allTerms lines) ≡ total termsBack items
@@ -42,20 +46,22 @@ pub record ThereAndBack (m : Mode) (t : Table) (text s : List ℕ) : Type 0 wher
   pub grouped : lines ≡ joined (λ (g : List Line). g) groups
   pub each : Paired (Back m s) items groups
 
--- of items that were asked for and written
-items-back-again : (m : Mode) (t : Table) (text s : List ℕ) (is : List Item) → rowByRow (writtenIn m t text) 0 (entries t) ≡ accepted is → s ≡ joined (itemText m) is → ThereAndBack m t text s
-unfolding reading file fitted
-items-back-again m t text s is a w =
-    let good = rows-accepted (writtenIn m t text) (WritableItem m) (item-writable m t text) 0 (entries t) is a in
-    let back : Paired (Back m s) is (groupsFrom m 0 is) = rw w (items-back m is) in
-    let whole : length s ≤ fileLimit → file (optionsOf m) s ≡ accepted (linesFrom m 0 is) = λ h. rw (le-leb (length s) fileLimit h) (rw w (ap linesOf (written-statements m is good))) in
+-- it holds of every file that is written
+pub there-and-back : (m : Mode) (t : Table) (text : List ℕ) (room : ℕ) (s : List ℕ) → writing m t text room ≡ accepted s
+    → ThereAndBack m t text s
+unfolding reading
+there-and-back m t text room s e =
+    let k = writing-asked m t text room s e in
+    let is = k .items in
+    let read = written-file m is (asked-writable m t text is (k .asked)) s (k .written) in
+    let back = items-back m is s (k .written) in
     record {
       items = is;
-      asked = a;
-      written = w;
+      asked = k .asked;
+      written = k .written;
       lines = linesFrom m 0 is;
-      read = λ h T. ap (fitted T) (whole h);
-      succeeds = λ h T r n. ap (fitted T) (whole h) ∙ rw (le-leb (length (linesFrom m 0 is)) (rowRoom T) r, le-leb (length (allTerms (linesFrom m 0 is))) (termRoom T) n);
+      read = λ h T. ap (fitted T) (read h);
+      succeeds = λ h T r n. ap (fitted T) (read h) ∙ fitted-all T (linesFrom m 0 is) r n;
       many = lines-back m 0 is;
       terms = terms-back m 0 is;
       rows = rw (groups-lines m 0 is) (rows-back m s back);
@@ -63,6 +69,3 @@ items-back-again m t text s is a w =
       grouped = groups-lines m 0 is;
       each = back;
     }
-
-pub there-and-back : (m : Mode) (t : Table) (text : List ℕ) (room : ℕ) (s : List ℕ) → writing m t text room ≡ accepted s → ThereAndBack m t text s
-there-and-back m t text room s e = let k = writing-asked m t text room s e in items-back-again m t text s (k .items) (k .asked) (k .written)

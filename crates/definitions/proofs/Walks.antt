@@ -1,4 +1,4 @@
--- Laws of `walk`: one item at a time, where a walk stands, and what holds of all that it finds.
+-- What does a walk find? One item at a time, where a walk stands, and what holds of all that it finds.
 use Prim.Native.Nat.{ℕ, zero, suc, pred, _+_, _≤_, _<_}
 use mathlib.Core.Path.{_≡_, refl, sym, ap, _∙_}
 use mathlib.Core.List.{List, [], _∷_, _++_, append-assoc, append-nil}
@@ -8,6 +8,7 @@ use lib.Seq.{drop-drop}
 use Rattle.definitions.specs.Refusal.{refusal}
 use Rattle.definitions.specs.Lists.{total, AllOf}
 use Rattle.definitions.specs.Walk.{Step, stop, bad, item, Walked, broken, items, before, walk, all}
+use Rattle.definitions.proofs.Truths.{never}
 
 -- ---- what is asked of a step: nothing stands in no text, and an item has a byte, within the text
 pub record Moves {A : Type 0} (step : List ℕ → Step A) : Type 0 where
@@ -38,7 +39,7 @@ module _ {A : Type 0} (step : List ℕ → Step A) (place : ℕ → A → A) whe
 
   module _ (moves : Moves step) (at : ℕ) where
     no-refusal-of-nothing : {n k : ℕ} → step [] ≡ bad n k → ⊥
-    no-refusal-of-nothing e = let q = moves .none in let z : _≡_ {A = ℕ} 0 1 = cc in omega arith
+    no-refusal-of-nothing e = let q = moves .none in never cc
 
     pub walk-stop : (s : List ℕ) → step s ≡ stop → walk step place s 0 at ≡ items [] at
     unfolding walk
@@ -57,7 +58,8 @@ module _ {A : Type 0} (step : List ℕ → Step A) (place : ℕ → A → A) whe
     walk-item (b ∷ s) a zero e = absurd (omega (arith, moves .least (b ∷ s) a zero e))
     walk-item (b ∷ s) a (suc n) e =
         rw (e, walk)
-        (ap (before (place at a)) (walk-passed s n (at + 1) (omega (arith, moves .most (b ∷ s) a (suc n) e)) ∙ ap (walk step place (drop n s) 0) (omega arith)))
+        (ap (before (place at a))
+        (walk-passed s n (at + 1) (omega (arith, moves .most (b ∷ s) a (suc n) e)) ∙ ap (walk step place (drop n s) 0) (omega arith)))
 
   -- ---- where a walk stands: at an offset, with the items before it
   pub record At (s : List ℕ) (at : ℕ) (pre : List A) : Type 0 where
@@ -105,7 +107,8 @@ module _ {A : Type 0} (step : List ℕ → Step A) (place : ℕ → A → A) (P 
   unfolding walk
   ended [] k at = (omega arith, omega arith, tt)
   ended (b ∷ s) (suc k) at =
-      ended-wider P (at + 1) (at + 1 + length s) at (at + length (b ∷ s)) (walk step place s k (at + 1)) (omega arith) (omega arith) (ended s k (at + 1))
+      ended-wider P (at + 1) (at + 1 + length s) at (at + length (b ∷ s)) (walk step place s k (at + 1)) (omega arith) (omega arith)
+      (ended s k (at + 1))
   ended (b ∷ s) zero at = cases (step (b ∷ s)) refl (λ k. ended s k (at + 1))
     where
       cases : (x : Step A) → step (b ∷ s) ≡ x → ((k : ℕ) → Ended P (at + 1) (at + 1 + length s) (walk step place s k (at + 1)))
@@ -115,7 +118,8 @@ module _ {A : Type 0} (step : List ℕ → Step A) (place : ℕ → A → A) (P 
       cases (item a n) e ih =
           rw (e, walk)
           (ended-before P at (at + length (b ∷ s)) (place at a) (walk step place s (pred n) (at + 1)) (each (b ∷ s) a n at e)
-          (ended-wider P (at + 1) (at + 1 + length s) at (at + length (b ∷ s)) (walk step place s (pred n) (at + 1)) (omega arith) (omega arith) (ih (pred n))))
+          (ended-wider P (at + 1) (at + 1 + length s) at (at + length (b ∷ s)) (walk step place s (pred n) (at + 1)) (omega arith)
+          (omega arith) (ih (pred n))))
 
   pub all-ended : (s : List ℕ) (ls : List A) (n : ℕ) → all step place s ≡ items ls n → (n ≤ length s) × AllOf P ls
   unfolding all

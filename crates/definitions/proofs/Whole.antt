@@ -1,6 +1,7 @@
--- Whole numbers for `omega`: z is `up z` less `dn z`, one of which is 0. Each law turns a fact on ℤ into one on ℕ that is linear in these.
+-- How does `omega` take whole numbers? z is `up z` less `dn z`, one of which is 0. Each law turns a fact on ℤ into one on ℕ that
+-- is linear in these.
 use mathlib.Core.Path.{_≡_, refl, sym, ap, _∙_}
-use mathlib.Core.Bool.{Bool, true, false, _&&_}
+use mathlib.Core.Bool.{true, false}
 use Prim.Native.Nat.{ℕ, zero, suc, _+_, _-_, _*_, _≤_, _<_, _^_, min}
 use native.Mathlib.Omega.{arith}
 use native.Mathlib.Decide.{decLt, decLe}
@@ -12,6 +13,7 @@ use native.Mathlib.Nat.{zero-mul}
 use lib.Signed.{ltZ, leZ}
 use mir.Syntax.{w64}
 use mir.Val.{SFits}
+use Rattle.definitions.proofs.Truths.{never, both}
 
 unfoldable pub up : ℤ → ℕ
 up (pos n) = n
@@ -20,11 +22,6 @@ up (negsuc n) = 0
 unfoldable pub dn : ℤ → ℕ
 dn (pos n) = 0
 dn (negsuc n) = suc n
-
--- both of two tests
-and-left : (x y : Bool) → x && y ≡ true → x ≡ true
-and-left true y e = refl
-and-left false y e = e
 
 module _ where
   pub one-side : (z : ℤ) → min (up z) (dn z) ≡ 0
@@ -87,7 +84,7 @@ module _ where
   pub lt-is : (x y : ℤ) → ltZ x y ≡ true → up x + dn y < up y + dn x
   unfolding up dn
   lt-is (pos a) (pos b) t = omega (arith, ltb-true a b t)
-  lt-is (pos a) (negsuc b) t = let e : _≡_ {A = ℕ} 0 1 = cc in omega arith
+  lt-is (pos a) (negsuc b) t = never cc
   lt-is (negsuc a) (pos b) t = omega arith
   lt-is (negsuc a) (negsuc b) t = omega (arith, ltb-true b a t)
 
@@ -95,22 +92,8 @@ module _ where
   unfolding up dn
   ge-is (pos a) (pos b) t = omega (arith, ltb-false a b t)
   ge-is (pos a) (negsuc b) t = omega arith
-  ge-is (negsuc a) (pos b) t = let e : _≡_ {A = ℕ} 0 1 = cc in omega arith
+  ge-is (negsuc a) (pos b) t = never cc
   ge-is (negsuc a) (negsuc b) t = omega (arith, ltb-false b a t)
-
-  pub is-lt : (x y : ℤ) → up x + dn y < up y + dn x → ltZ x y ≡ true
-  unfolding up dn
-  is-lt (pos a) (pos b) h = lt-ltb a b (omega arith)
-  is-lt (pos a) (negsuc b) h = absurd (omega arith)
-  is-lt (negsuc a) (pos b) h = refl
-  is-lt (negsuc a) (negsuc b) h = lt-ltb b a (omega arith)
-
-  pub is-ge : (x y : ℤ) → up y + dn x ≤ up x + dn y → ltZ x y ≡ false
-  unfolding up dn
-  is-ge (pos a) (pos b) h = le-ltb a b (omega arith)
-  is-ge (pos a) (negsuc b) h = refl
-  is-ge (negsuc a) (pos b) h = absurd (omega arith)
-  is-ge (negsuc a) (negsuc b) h = le-ltb b a (omega arith)
 
   -- in 64 signed bits
   pub in-up : (z : ℤ) → SFits w64 z → up z < 2 ^ 63
@@ -146,7 +129,7 @@ module _ where
   pub true-in : (z : ℤ) → inI64 z ≡ true → SFits w64 z
   unfolding inI64
   true-in (pos n) e = record { sfits = omega (arith, leb-true n 9223372036854775807 e) }
-  true-in (negsuc n) e = record { sfits = omega (arith, leb-true n 9223372036854775807 (and-left (leb n 9223372036854775807) true e)) }
+  true-in (negsuc n) e = record { sfits = omega (arith, leb-true n 9223372036854775807 (both (leb n 9223372036854775807) true e .0)) }
 
   pub over-up : (z : ℤ) → 2 ^ 63 ≤ up z → inI64 z ≡ false
   unfolding up inI64

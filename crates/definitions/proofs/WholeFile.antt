@@ -1,16 +1,15 @@
--- The whole file is read. An accepted file is its statements, one piece for each line, and blanks behind them; a refused one is broken at a place that lies in it, and all before that
--- place is whole statements and blanks. So no byte is left out. (specs/Pieces.antt has the words.)
+-- Is the whole file read? An accepted file is its statements, one piece for each line, and blanks behind them; a refused one is
+-- broken at a place that lies in it, and all before that place is whole statements and blanks. So no byte is left out.
+-- (specs/Pieces.antt has the words.)
 use Prim.Native.Nat.{ℕ, _+_, _≤_, _<_}
 use mathlib.Core.Path.{_≡_, ap}
 use mathlib.Core.Logic.{_⊎_, inl, inr, ⊎-elim}
 use mathlib.Core.List.{List, _++_}
 use native.Mathlib.Omega.{arith}
-use lib.ListN.{length, take, drop, length-append, take-append-drop}
-use lib.Seq.{length-take-le}
+use lib.ListN.{length, length-append}
 use Rattle.definitions.specs.Lists.{AllOf}
 use Rattle.definitions.specs.Limits.{fileLimit}
 use Rattle.definitions.specs.Refusal.{Refusal, refusal}
-use Rattle.definitions.specs.Bytes.{blanks}
 use Rattle.definitions.specs.Walk.{bad, broken, items}
 use Rattle.definitions.specs.Row.{Line}
 use Rattle.definitions.specs.Text.{statement, inFile}
@@ -18,12 +17,12 @@ use Rattle.definitions.specs.Table.{refused, accepted}
 use Rattle.definitions.specs.File.{statements, file}
 use Rattle.definitions.specs.Pieces.{together, Blank, Pieces}
 use Rattle.definitions.specs.declared.Options.{Options}
-use Rattle.definitions.proofs.Texts.{blanks-within}
 use Rattle.definitions.proofs.Statements.{statement-moves}
 use Rattle.definitions.proofs.PieceByPiece.{ended-items, ended-broken, all-through}
 use Rattle.definitions.proofs.FileAnswers.{file-accepted, file-refused}
-use Rattle.definitions.proofs.Stops.{all-blank, stop-is-blank, bad-is-behind}
+use Rattle.definitions.proofs.Stops.{stop-is-blank, bad-parted}
 
+-- what is said of a file s that is read as the lines ls
 pub record WholeFile (o : Options) (s : List ℕ) (ls : List Line) : Type 0 where
   pub pieces : List (List ℕ)
   pub tail : List ℕ
@@ -34,6 +33,7 @@ pub record WholeFile (o : Options) (s : List ℕ) (ls : List Line) : Type 0 wher
   -- the tail is blanks alone
   pub blank : AllOf Blank tail
 
+-- what is said of a file s that is refused with r
 pub record BrokenFile (o : Options) (s : List ℕ) (r : Refusal) : Type 0 where
   pub pieces : List (List ℕ)
   pub lines : List Line
@@ -49,6 +49,7 @@ pub record BrokenFile (o : Options) (s : List ℕ) (r : Refusal) : Type 0 where
   -- there `statement` answers the number
   pub answer : statement o (gap ++ rest) ≡ bad (r .number) (length gap)
 
+-- statements that are found up to the end of the file leave no byte out
 pub accepted-is-whole : (o : Options) (s : List ℕ) (ls : List Line) (n : ℕ) → statements o s ≡ items ls n → WholeFile o s ls
 unfolding statements
 accepted-is-whole o s ls n e =
@@ -62,26 +63,24 @@ accepted-is-whole o s ls n e =
       blank = stop-is-blank o (t .rest) (q .2);
     }
 
+-- a statement that is refused stands behind whole statements
 pub refused-is-broken : (o : Options) (s : List ℕ) (r : Refusal) → statements o s ≡ broken r → BrokenFile o s r
 unfolding statements
 refused-is-broken o s r e =
     let t = all-through (statement o) inFile (statement-moves o) s in
     let q = ended-broken (statement o) inFile (statement-moves o) r (t .ended) e in
-    let k = blanks (t .rest) in
-    let b = bad-is-behind o (t .rest) (r .number) (q .behind) (q .answer) in
-    let seam = take-append-drop k (t .rest) in
-    let size : length (take k (t .rest)) ≡ k = length-take-le k (t .rest) (blanks-within (t .rest)) in
+    let b = bad-parted o (t .rest) (r .number) (q .behind) (q .answer) in
     record {
       pieces = t .pieces;
       lines = t .found;
-      gap = take k (t .rest);
-      rest = drop k (t .rest);
-      whole = rw seam (t .whole);
-      each = rw seam (t .each);
-      blank = all-blank (t .rest);
-      place = omega (arith, q .spot, b .0, size, length-append (together (t .pieces)) (take k (t .rest)));
-      within = omega (arith, q .spot, b .0, b .1, ap length (t .whole), length-append (together (t .pieces)) (t .rest));
-      answer = rw (seam, size) (rw (b .0) at (q .answer));
+      gap = b .gap;
+      rest = b .behind;
+      whole = rw (b .seam) (t .whole);
+      each = rw (b .seam) (t .each);
+      blank = b .blank;
+      place = omega (arith, q .spot, b .size, length-append (together (t .pieces)) (b .gap));
+      within = omega (arith, q .spot, b .short, ap length (t .whole), length-append (together (t .pieces)) (t .rest));
+      answer = rw (b .seam, b .size) (q .answer);
     }
 
 -- ---- the same of `file`, which has the limit on the length (1)

@@ -1,4 +1,4 @@
--- The statement of WrittenDocument.antt is not empty: one table whose items are in the document's order, with what is written of it.
+-- Is there a table in the document's order? One, with what is written of it: what WrittenDocument.antt says is not empty.
 use Prim.Native.Nat.{ℕ}
 use mathlib.Core.Path.{_≡_, refl}
 use mathlib.Core.List.{List, [], _∷_}
@@ -11,15 +11,18 @@ use Rattle.definitions.specs.Literal.{opposite, plain, fileNumber}
 use Rattle.definitions.specs.Row.{term, atMost, objective, Row, rowOf, sizes}
 use Rattle.definitions.specs.Table.{Table, table, accepted, entriesOf, entries, termsOn, indexed, sortOf, rowByRow}
 use Rattle.definitions.specs.Normal.{totalBy}
-use Rattle.definitions.specs.Write.{flipTerm, flipped, plainTerm, fall, unnegated, printed, numberText, literalText, termText, spaced, apart, remarkText, offsetText, comparisonText, rowText, Item, say, line, itemText, weighs, oneLine, itemIn, numbered, bounded, rowAllowed, writtenIn, writing}
+use Rattle.definitions.specs.Write.{flipTerm, flipped, plainTerm, fall, unnegated, printed, numberText, literalText, termText}
+use Rattle.definitions.specs.Write.{spaced, apart, remarkText, offsetText, comparisonText, rowText, Item, say, line, itemText}
+use Rattle.definitions.specs.Write.{weighs, oneLine, itemIn, numbered, bounded, rowAllowed, writtenIn, writing}
 use Rattle.definitions.specs.Back.{rowsAsked}
-use Rattle.definitions.specs.DocumentWritten.{forDocument, constraintsAsked, headerSaid, InOrder}
-use Rattle.definitions.specs.TableP.{bytes}
-use Rattle.definitions.proofs.WrittenDocument.{WrittenDocument, written-document}
+use Rattle.definitions.specs.DocumentWritten.{forDocument, constraintsAsked, headerSaid, InOrder, WrittenDocument}
+use Rattle.definitions.specs.Bytes.{bytes}
+use Rattle.definitions.proofs.WrittenDocument.{written-document}
 
 -- a header, an objective, a constraint
 pub sampleTable : Table
-sampleTable = table (0 ∷ 4 ∷ 2 ∷ []) (0 ∷ 0 ∷ 1 ∷ []) (27 ∷ 1 ∷ 2 ∷ []) (pos 0 ∷ pos 0 ∷ pos 4 ∷ []) (pos 4 ∷ pos 3 ∷ pos 2 ∷ []) (1 ∷ 0 ∷ 2 ∷ [])
+sampleTable =
+    table (0 ∷ 4 ∷ 2 ∷ []) (0 ∷ 0 ∷ 1 ∷ []) (27 ∷ 1 ∷ 2 ∷ []) (pos 0 ∷ pos 0 ∷ pos 4 ∷ []) (pos 4 ∷ pos 3 ∷ pos 2 ∷ []) (1 ∷ 0 ∷ 2 ∷ [])
 
 pub sampleComments : List ℕ
 sampleComments = bytes "#variable= 2 #constraint= 1"
@@ -36,14 +39,17 @@ pub sampleItems : List Item
 sampleItems = say sampleComments ∷ line aim ∷ line limit ∷ []
 
 pub sample-asked : rowByRow (writtenIn forDocument sampleTable sampleComments) 0 (entries sampleTable) ≡ accepted sampleItems
-unfolding sampleTable sampleComments sampleItems aim limit inI64 sizes opposite plain fileNumber entriesOf termsOn indexed sortOf rowByRow totalBy flipTerm flipped plainTerm fall unnegated printed weighs oneLine itemIn numbered bounded rowAllowed writtenIn
+unfolding sampleTable sampleComments sampleItems aim limit inI64 sizes opposite plain fileNumber entriesOf termsOn indexed sortOf
+    rowByRow totalBy flipTerm flipped plainTerm fall unnegated printed weighs oneLine itemIn numbered bounded rowAllowed writtenIn
 sample-asked = refl
 
 pub sampleText : List ℕ
 sampleText = bytes "* #variable= 2 #constraint= 1\nmin: -4 x1;\n* objective offset for previous objective: 4\n-3 x1 -2 x2 >= -4;\n"
 
 pub sample-written : writing forDocument sampleTable sampleComments 120 ≡ accepted sampleText
-unfolding sampleTable sampleComments sampleText inI64 sizes decimalIn decimal opposite plain fileNumber entriesOf termsOn indexed sortOf rowByRow totalBy flipTerm flipped plainTerm fall unnegated printed numberText literalText termText spaced apart joined remarkText offsetText comparisonText rowText itemText weighs oneLine itemIn numbered bounded rowAllowed writtenIn writing
+unfolding sampleTable sampleComments sampleText inI64 sizes decimalIn decimal opposite plain fileNumber entriesOf termsOn indexed
+    sortOf rowByRow totalBy flipTerm flipped plainTerm fall unnegated printed numberText literalText termText spaced apart joined
+    remarkText offsetText comparisonText rowText itemText weighs oneLine itemIn numbered bounded rowAllowed writtenIn writing
 sample-written = refl
 
 pub sample-in-order : InOrder sampleItems

@@ -1,4 +1,5 @@
--- What it says that rows come back: a file is written and read again (01, "What the contracts owe", demand 3). proofs/ThereAndBack.antt has the statement.
+-- What does it say that rows come back, where a file is written and read again (01, "What the contracts owe", demand 3)? Words of
+-- a theorem: proofs/ThereAndBack.antt has the statement.
 use Prim.Native.Nat.{ℕ, _+_}
 use mathlib.Core.Path.{_≡_}
 use mathlib.Core.Bool.{Bool, true, false, cond}
@@ -10,13 +11,14 @@ use Rattle.definitions.specs.Bytes.{cr}
 use Rattle.definitions.specs.Number.{integerText}
 use Rattle.definitions.specs.Row.{Kind, atLeast, atMost, equal, objective, Row, Line, comment, row}
 use Rattle.definitions.specs.Meaning.{Assignment, holds, valueOf}
+use Rattle.definitions.specs.File.{firstAt}
 use Rattle.definitions.specs.Write.{printed, offsetWords, isZero, Item, say, line}
 use Rattle.definitions.specs.declared.Mode.{Mode}
 use Rattle.definitions.specs.declared.Options.{Options}
 
 -- read with the same first index
 abbrev pub optionsOf : Mode → Options
-optionsOf m = record { first = m .first }
+optionsOf m = firstAt (m .first)
 
 -- two lists, one for one, in order
 pub data Paired {A B : Type 0} (R : A → B → Type 0) : List A → List B → Type 0 where

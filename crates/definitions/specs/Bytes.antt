@@ -1,12 +1,21 @@
--- Bytes by class (01, "The text"): "Every byte belongs to one class: digit, sign, space or tab, CR, LF, `;`, `*`, `~`, `x`, `m`, operator byte, other."
+-- Which class has a byte (01, "The text")? "Every byte belongs to one class: digit, sign, space or tab, CR, LF, `;`, `*`, `~`,
+-- `x`, `m`, operator byte, other." And how are blanks, line endings and texts said in bytes?
 use Prim.Native.Nat.{ℕ, zero, suc}
+use Prim.Native.Char.{code}
+use Prim.Native.String as S
 use mathlib.Core.Bool.{Bool, true, false, cond, _&&_, _||_}
 use mathlib.Core.List.{List, [], _∷_}
 use lib.Dec.{leb, eqb}
 use Rattle.definitions.specs.declared.Class.{Class}
-use Rattle.definitions.specs.declared.Class.the-variants.{Digit, Sign, Blank, Cr, Lf, Semicolon, Star, Tilde, LetterX, LetterM, Operator, Other}
+use Rattle.definitions.specs.declared.Class.the-variants.{Digit, Sign, Blank, Cr, Lf, Semicolon, Star, Tilde, LetterX}
+use Rattle.definitions.specs.declared.Class.the-variants.{LetterM, Operator, Other}
 use Rattle.definitions.specs.declared.Beginning.{Beginning}
 use Rattle.definitions.specs.declared.Beginning.the-variants.{Comment, Objective, Constraint, Nothing}
+
+-- the bytes of a text
+abbrev pub bytes : S.String → List ℕ
+bytes S.[] = []
+bytes (S._∷_ c s) = code c ∷ bytes s
 
 abbrev pub tab : ℕ
 tab = 9
@@ -53,9 +62,8 @@ letterX = 120
 abbrev pub tilde : ℕ
 tilde = 126
 
--- `min:`
 abbrev pub minText : List ℕ
-minText = letterM ∷ 105 ∷ 110 ∷ colon ∷ []
+minText = bytes "min:"
 
 -- `0` to `9`
 abbrev pub isDigit : ℕ → Bool

@@ -1,5 +1,6 @@
--- The public OPB document's own linear grammar and meaning, apart from Text.antt and Meaning.antt. A file of the grammar is the text of a tree; what the trees below may hold
--- beyond the grammar's sentences, `WellFormed` rules out. (The document: cril.univ-artois.fr/PB12/format.pdf; docs/DECISIONS.md says what is known of it here.)
+-- What are the public OPB document's own linear grammar and meaning, apart from Text.antt and Meaning.antt? A file of the grammar
+-- is the text of a tree; what the trees below may hold beyond the grammar's sentences, `WellFormed` rules out. (The document:
+-- cril.univ-artois.fr/PB12/format.pdf; docs/DECISIONS.md says what is known of it here.)
 use Prim.Native.Nat.{ℕ, zero, suc, _+_, _*_, _≤_, _<_}
 use mathlib.Core.Path.{_≡_}
 use mathlib.Core.Bool.{Bool, true, false, _&&_}
@@ -8,10 +9,11 @@ use lib.ListN.{length}
 use lib.IntN.{ℤ, pos, negℤ, _+ℤ_, _*ℤ_}
 use lib.Signed.{leZ}
 use Rattle.definitions.specs.Lists.{joined, AllOf}
+use Rattle.definitions.specs.Bytes.{bytes, lf, space, star, letterX}
 
 unfoldable pub spaces : ℕ → List ℕ
 spaces zero = []
-spaces (suc n) = 32 ∷ spaces n
+spaces (suc n) = space ∷ spaces n
 
 -- ---- "Integer: digits, with an optional `+` or `-` directly before them."
 pub data Sign : Type 0 where
@@ -25,9 +27,10 @@ pub record Integer : Type 0 where
 
 abbrev pub signText : Sign → List ℕ
 signText unsigned = []
-signText plus = 43 ∷ []
-signText minus = 45 ∷ []
+signText plus = bytes "+"
+signText minus = bytes "-"
 
+-- the byte 48 is `0`
 abbrev pub digitText : ℕ → ℕ
 digitText d = 48 + d
 
@@ -43,8 +46,12 @@ signedBy unsigned n = pos n
 signedBy plus n = pos n
 signedBy minus n = negℤ (pos n)
 
+-- the number that the digits alone are
+abbrev pub unsignedValue : Integer → ℕ
+unsignedValue z = digitsValue 0 (z .first ∷ z .others)
+
 unfoldable pub integerValue : Integer → ℤ
-integerValue z = signedBy (z .sign) (digitsValue 0 (z .first ∷ z .others))
+integerValue z = signedBy (z .sign) (unsignedValue z)
 
 abbrev pub IsDigit : ℕ → Type 0
 IsDigit d = d < 10
@@ -64,7 +71,8 @@ unfoldable pub variableOf : WeightedTerm → ℕ
 variableOf t = digitsValue 0 (t .first ∷ t .others)
 
 unfoldable pub termText : WeightedTerm → List ℕ
-termText t = integerText (t .weight) ++ (spaces (suc (t .gap)) ++ (120 ∷ (map digitText (t .first ∷ t .others) ++ spaces (suc (t .behind)))))
+termText t =
+    integerText (t .weight) ++ (spaces (suc (t .gap)) ++ (letterX ∷ (map digitText (t .first ∷ t .others) ++ spaces (suc (t .behind)))))
 
 pub record GoodTerm (most : ℕ) (t : WeightedTerm) : Type 0 where
   pub weight : GoodInteger (t .weight)
@@ -83,13 +91,14 @@ sumText ts = joined termText ts
 abbrev pub termsOf : Sum → List WeightedTerm
 termsOf s = s .first ∷ s .others
 
--- ---- "Relational operators: `>=` and `=` only." "Constraint: a sum, a relational operator, zero or more spaces, an integer, zero or more spaces, `;`."
+-- ---- "Relational operators: `>=` and `=` only." "Constraint: a sum, a relational operator, zero or more spaces, an integer, zero
+-- or more spaces, `;`."
 pub data Relation : Type 0 where
   atLeast equal : Relation
 
 abbrev pub relationText : Relation → List ℕ
-relationText atLeast = 62 ∷ 61 ∷ []
-relationText equal = 61 ∷ []
+relationText atLeast = bytes ">="
+relationText equal = bytes "="
 
 pub record Constraint : Type 0 where
   pub sum : Sum
@@ -100,11 +109,12 @@ pub record Constraint : Type 0 where
 
 -- "Each statement is to stand on one line of its own."
 abbrev pub ended : List ℕ
-ended = 59 ∷ 10 ∷ []
+ended = bytes ";\n"
 
 unfoldable pub constraintText : Constraint → List ℕ
 constraintText c =
-    sumText (termsOf (c .sum)) ++ (relationText (c .relation) ++ (spaces (c .gap) ++ (integerText (c .bound) ++ (spaces (c .behind) ++ ended))))
+    sumText (termsOf (c .sum))
+    ++ (relationText (c .relation) ++ (spaces (c .gap) ++ (integerText (c .bound) ++ (spaces (c .behind) ++ ended))))
 
 pub record GoodConstraint (most : ℕ) (c : Constraint) : Type 0 where
   pub terms : AllOf (GoodTerm most) (termsOf (c .sum))
@@ -116,14 +126,14 @@ pub record Objective : Type 0 where
   pub sum : Sum
 
 unfoldable pub objectiveText : Objective → List ℕ
-objectiveText g = (109 ∷ 105 ∷ 110 ∷ 58 ∷ []) ++ (spaces (g .gap) ++ (sumText (termsOf (g .sum)) ++ ended))
+objectiveText g = bytes "min:" ++ (spaces (g .gap) ++ (sumText (termsOf (g .sum)) ++ ended))
 
 -- ---- "Comment: `*`, then any characters but the end of line, then the end of line."
 unfoldable pub commentText : List ℕ → List ℕ
-commentText t = 42 ∷ (t ++ (10 ∷ []))
+commentText t = star ∷ (t ++ (lf ∷ []))
 
 abbrev pub NoLineEnd : ℕ → Type 0
-NoLineEnd b = b ≡ 10 → ⊥
+NoLineEnd b = b ≡ lf → ⊥
 
 -- ---- "A file: comments, then at most one objective, then comments and constraints in any order."
 pub data Statement : Type 0 where
@@ -139,8 +149,8 @@ statementText (constraint c) = constraintText c
 abbrev pub statementsText : List Statement → List ℕ
 statementsText xs = joined statementText xs
 
--- "The first line is a comment of the form `* #variable= N #constraint= M`: N is the number of variables, x1 to xN, and M the number of constraints that follow." The numbers are
--- written as integers without a sign.
+-- "The first line is a comment of the form `* #variable= N #constraint= M`: N is the number of variables, x1 to xN, and M the
+-- number of constraints that follow." The numbers are written as integers without a sign.
 pub record File : Type 0 where
   pub variables : Integer
   pub constraints : Integer
@@ -148,13 +158,11 @@ pub record File : Type 0 where
   pub objective : List Objective
   pub body : List Statement
 
--- " #variable= "
 abbrev pub variableWords : List ℕ
-variableWords = 32 ∷ 35 ∷ 118 ∷ 97 ∷ 114 ∷ 105 ∷ 97 ∷ 98 ∷ 108 ∷ 101 ∷ 61 ∷ 32 ∷ []
+variableWords = bytes " #variable= "
 
--- " #constraint= "
 abbrev pub constraintWords : List ℕ
-constraintWords = 32 ∷ 35 ∷ 99 ∷ 111 ∷ 110 ∷ 115 ∷ 116 ∷ 114 ∷ 97 ∷ 105 ∷ 110 ∷ 116 ∷ 61 ∷ 32 ∷ []
+constraintWords = bytes " #constraint= "
 
 unfoldable pub headerOf : File → List ℕ
 headerOf f = variableWords ++ (integerText (f .variables) ++ (constraintWords ++ integerText (f .constraints)))
@@ -181,13 +189,14 @@ GoodStatement most (constraint c) = GoodConstraint most c
 pub record WellFormed (f : File) : Type 0 where
   pub variables : GoodInteger (f .variables) × (f .variables .sign ≡ unsigned)
   pub constraints : GoodInteger (f .constraints) × (f .constraints .sign ≡ unsigned)
-  pub counted : digitsValue 0 (f .constraints .first ∷ f .constraints .others) ≡ constraintCount (f .body)
+  pub counted : unsignedValue (f .constraints) ≡ constraintCount (f .body)
   pub comments : AllOf (AllOf NoLineEnd) (f .comments)
-  pub objective : AllOf (λ g. AllOf (GoodTerm (digitsValue 0 (f .variables .first ∷ f .variables .others))) (termsOf (g .sum))) (f .objective)
+  pub objective : AllOf (λ g. AllOf (GoodTerm (unsignedValue (f .variables))) (termsOf (g .sum))) (f .objective)
   pub single : length (f .objective) ≤ 1
-  pub body : AllOf (GoodStatement (digitsValue 0 (f .variables .first ∷ f .variables .others))) (f .body)
+  pub body : AllOf (GoodStatement (unsignedValue (f .variables))) (f .body)
 
--- ---- "Meaning: variables take 0 or 1; ... a sum is the sum of weight times value, as whole numbers; `>=` and `=` compare that sum with the integer. A solution satisfies every
+-- ---- "Meaning: variables take 0 or 1; ... a sum is the sum of weight times value, as whole numbers; `>=` and `=` compare that sum
+-- with the integer. A solution satisfies every
 -- constraint; an objective's value is its sum." An assignment is by the variable's number.
 abbrev pub bit : Bool → ℤ
 bit false = pos 0

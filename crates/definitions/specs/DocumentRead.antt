@@ -1,4 +1,5 @@
--- What it says that a file of the OPB document is read as the document means it. The document numbers its variables from 1, so the first index is 1. proofs/OpbDocument.antt has the statement.
+-- What does it say that a file of the OPB document is read as the document means it? The document numbers its variables from 1, so
+-- the first index is 1. Words of a theorem: proofs/OpbDocument.antt has the statement.
 use Prim.Native.Nat.{ℕ, _+_, _-_, _≤_}
 use mathlib.Core.Path.{_≡_}
 use mathlib.Core.Bool.{Bool, true, false, cond}
@@ -10,6 +11,7 @@ use Rattle.definitions.specs.Lists.{AllOf}
 use Rattle.definitions.specs.Limits.{fileLimit, indexLimit, weightLimit, inI64}
 use Rattle.definitions.specs.Bytes.{space}
 use Rattle.definitions.specs.Row.{objective, Row, Line, comment, row}
+use Rattle.definitions.specs.File.{firstAt}
 use Rattle.definitions.specs.Meaning.{Assignment, holds, valueOf}
 use Rattle.definitions.specs.Back.{isGoal, withoutCr}
 use Rattle.definitions.specs.Document as D
@@ -17,7 +19,7 @@ use Rattle.definitions.specs.declared.Options.{Options}
 
 -- "first index 1"
 abbrev pub fromOne : Options
-fromOne = record { first = 1 }
+fromOne = firstAt 1
 
 -- ---- 01's limits on a file of the document
 
@@ -60,6 +62,8 @@ pub data Says (s : List ℕ) : D.Statement → Line → Type 0 where
   -- a comment for a comment, with its text
   remark : {t : List ℕ} {f n : ℕ} → take n (drop f s) ≡ withoutCr (withoutSpace t) → Says s (D.comment t) (comment f n (pos 0))
   -- an objective that has the document's value
-  goal : {g : D.Objective} {r : Row} → r .kind ≡ objective → ((b : ℕ → Bool) → valueOf (byIndex b) r ≡ D.objectiveValue b g) → Says s (D.goal g) (row r)
+  goal : {g : D.Objective} {r : Row} → r .kind ≡ objective → ((b : ℕ → Bool) → valueOf (byIndex b) r ≡ D.objectiveValue b g)
+      → Says s (D.goal g) (row r)
   -- a constraint that holds exactly where the document's is satisfied
-  constraint : {c : D.Constraint} {r : Row} → isGoal (r .kind) ≡ false → ((b : ℕ → Bool) → holds (byIndex b) r ≡ D.satisfied b c) → Says s (D.constraint c) (row r)
+  constraint : {c : D.Constraint} {r : Row} → isGoal (r .kind) ≡ false → ((b : ℕ → Bool) → holds (byIndex b) r ≡ D.satisfied b c)
+      → Says s (D.constraint c) (row r)

@@ -1,22 +1,22 @@
--- What it says that a written file lies in the OPB document's grammar. The document numbers its variables from 1 and has no negated literals, so a file is written for it with first
--- index 1 in no-negated mode. proofs/WrittenDocument.antt has the statement.
+-- What does it say that a written file lies in the OPB document's grammar? The document numbers its variables from 1 and has no
+-- negated literals, so a file is written for it with first index 1 in no-negated mode. Words of a theorem:
+-- proofs/WrittenDocument.antt has the statement.
 use Prim.Native.Nat.{ℕ, _+_, _≤_}
 use mathlib.Core.Path.{_≡_}
 use mathlib.Core.Bool.{Bool, true, false, cond}
 use mathlib.Core.List.{List, [], _∷_, _++_, map}
 use lib.ListN.{length}
-use lib.IntN.{ℤ, _+ℤ_}
+use lib.IntN.{_+ℤ_}
 use Rattle.definitions.specs.Lists.{joined, AllOf}
-use Rattle.definitions.specs.Bytes.{minText}
+use Rattle.definitions.specs.Bytes.{bytes, space, minText}
 use Rattle.definitions.specs.Number.{decimal}
 use Rattle.definitions.specs.Literal.{indexOf}
 use Rattle.definitions.specs.Row.{Term, objective, Row}
 use Rattle.definitions.specs.Meaning.{holds, valueOf}
 use Rattle.definitions.specs.Write.{printed, apart, closed, offsetText, Item, say, line, itemText}
-use Rattle.definitions.specs.Back.{rowsAsked, isGoal, offsetOf}
+use Rattle.definitions.specs.Back.{Paired, rowsAsked, isGoal, offsetOf}
 use Rattle.definitions.specs.Document as D
 use Rattle.definitions.specs.DocumentRead.{byIndex}
-use Rattle.definitions.specs.TableP.{bytes}
 use Rattle.definitions.specs.declared.Mode.{Mode}
 
 -- first index 1, no-negated mode
@@ -91,3 +91,21 @@ SatisfiedAlike r c = (b : ℕ → Bool) → D.satisfied b c ≡ holds (byIndex b
 -- the value with the offset printed for it is the value of the row with its own offset
 abbrev pub ValuedAlike : Row → D.Objective → Type 0
 ValuedAlike r g = (b : ℕ → Bool) → D.objectiveValue b g +ℤ offsetOf forDocument r ≡ valueOf (byIndex b) r
+
+-- ---- the whole
+
+-- what is said of the file s that is written of items in the document's order
+pub record WrittenDocument {is : List Item} (o : InOrder is) (s : List ℕ) : Type 0 where
+  -- a file of the document's grammar
+  pub document : D.File
+  pub good : D.WellFormed document
+  -- without an objective its text is the written text
+  pub same : o .objectives ≡ [] → D.fileText document ≡ s
+  -- with an objective the written text lacks one space, right before the `;` of the objective's line; before and behind that place
+  -- the two are the same
+  pub lacks : (r : Row) → o .objectives ≡ r ∷ []
+      → (s ≡ beforeEnd o r ++ fromEnd o r) × (D.fileText document ≡ beforeEnd o r ++ (space ∷ fromEnd o r))
+  -- one constraint of the document for each constraint asked for, in order, satisfied exactly where that holds
+  pub constraints : Paired SatisfiedAlike (constraintsAsked is) (constraintsIn (document .body))
+  -- its objective is the one asked for: the document's value and the offset printed for it make the value asked for
+  pub objectives : Paired ValuedAlike (o .objectives) (document .objective)

@@ -1,12 +1,12 @@
--- The house lines of the listing program (01, "Examples on each side"): "House lines are parted by tabs"; "The first line is rows, terms, first index; `c` gives the text's length;
--- equal is `eq`. A refusal prints `refused`, number, place alone."
+-- Which lines does the listing program print (01, "Examples on each side")? "House lines are parted by tabs"; "The first line is
+-- rows, terms, first index; `c` gives the text's length; equal is `eq`. A refusal prints `refused`, number, place alone."
 use Prim.Native.Nat.{ℕ}
 use mathlib.Core.Bool.{cond}
 use mathlib.Core.List.{List, [], _∷_, _++_}
 use lib.ListN.{length, take}
 use Rattle.definitions.specs.Lists.{joined}
 use Rattle.definitions.specs.Refusal.{Refusal, Checked, refuse, accept}
-use Rattle.definitions.specs.Bytes.{tab, lf}
+use Rattle.definitions.specs.Bytes.{bytes, tab, lf}
 use Rattle.definitions.specs.Number.{decimal, integerText}
 use Rattle.definitions.specs.Row.{Term, Kind, atLeast, atMost, equal, objective, Line, comment, row}
 use Rattle.definitions.specs.Table.{Table, Outcome, refused, accepted, allTerms, Entry, entries, andThen, rowByRow, lineIn}
@@ -16,33 +16,32 @@ use Rattle.definitions.specs.Write.{literalText, numbered, fittedText}
 abbrev pub field : List ℕ → List ℕ
 field s = tab ∷ s
 
--- `ge`, `le`, `eq`, `min`
 abbrev pub kindWord : Kind → List ℕ
-kindWord atLeast = 103 ∷ 101 ∷ []
-kindWord atMost = 108 ∷ 101 ∷ []
-kindWord equal = 101 ∷ 113 ∷ []
-kindWord objective = 109 ∷ 105 ∷ 110 ∷ []
+kindWord atLeast = bytes "ge"
+kindWord atMost = bytes "le"
+kindWord equal = bytes "eq"
+kindWord objective = bytes "min"
 
 unfoldable pub termFields : ℕ → Term → List ℕ
 termFields first t = field (integerText (t .weight)) ++ field (literalText first (t .code))
 
 unfoldable pub houseLine : ℕ → Line → List ℕ
-houseLine first (comment f n b) = (99 ∷ []) ++ (field (decimal n) ++ (lf ∷ []))
+houseLine first (comment f n b) = bytes "c" ++ (field (decimal n) ++ (lf ∷ []))
 houseLine first (row r) = kindWord (r .kind) ++ (field (integerText (r .bound)) ++ (joined (termFields first) (r .terms) ++ (lf ∷ [])))
 
--- `opb`
 unfoldable pub headLine : ℕ → List Line → List ℕ
-headLine first ls = (111 ∷ 112 ∷ 98 ∷ []) ++ (field (decimal (length ls)) ++ (field (decimal (length (allTerms ls))) ++ (field (decimal first) ++ (lf ∷ []))))
+headLine first ls =
+    bytes "opb" ++ (field (decimal (length ls)) ++ (field (decimal (length (allTerms ls))) ++ (field (decimal first) ++ (lf ∷ []))))
 
--- `refused`
 unfoldable pub refusedLine : Refusal → List ℕ
-refusedLine r = (114 ∷ 101 ∷ 102 ∷ 117 ∷ 115 ∷ 101 ∷ 100 ∷ []) ++ (field (decimal (r .number)) ++ (field (decimal (r .place)) ++ (lf ∷ [])))
+refusedLine r = bytes "refused" ++ (field (decimal (r .number)) ++ (field (decimal (r .place)) ++ (lf ∷ [])))
 
 unfoldable pub listing : ℕ → Outcome (List Line) → List ℕ
 listing first (refused r) = refusedLine r
 listing first (accepted ls) = headLine first ls ++ joined (houseLine first) ls
 
--- ---- the house lines of the first n rows of a table, into an output of so many bytes: row by row 11, 5; then 14, where the lines do not fit
+-- ---- the house lines of the first n rows of a table, into an output of so many bytes: row by row 11, 5; then 14, where the lines
+-- do not fit
 
 -- 5: "file number beyond u32"
 abbrev pub listedLine : ℕ → Line → Checked Line

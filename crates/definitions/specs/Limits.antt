@@ -1,4 +1,4 @@
--- The limits (01, "Numbers and tables"). "The file and index limits below are our own."
+-- Which limits are there? (01, "Numbers and tables": "The file and index limits below are our own.")
 use Prim.Native.Nat.{ℕ}
 use mathlib.Core.Bool.{Bool, _&&_}
 use lib.IntN.{ℤ, pos, negsuc}

@@ -1,4 +1,4 @@
--- Words on lists that the other files use.
+-- Which words on lists do the other files use?
 use Prim.Native.Nat.{ℕ, _+_}
 use mathlib.Core.Bool.{Bool, true, false, _&&_}
 use lib.Dec.{eqb}

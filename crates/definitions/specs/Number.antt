@@ -1,4 +1,5 @@
--- Numbers in text (01, "The text"): "Number: optional sign, one or more digits, in signed 64 bits. Leading zeros are fine." And the text of a number.
+-- How is a number read, and how is one written (01, "The text")? "Number: optional sign, one or more digits, in signed 64 bits.
+-- Leading zeros are fine."
 use Prim.Native.Nat.{ℕ, zero, suc, _+_, _-_, _*_, _/_, _%_}
 use mathlib.Core.Bool.{Bool, true, false, cond}
 use mathlib.Core.List.{List, [], _∷_, _++_}
@@ -14,7 +15,7 @@ unfoldable pub leading : List ℕ → List ℕ
 leading [] = []
 leading (b ∷ s) = elim (isDigit b) [ true ↦ b ∷ leading s | false ↦ [] ]
 
--- the number that digits stand for, after those that stand for a
+-- the number that digits stand for, after those that stand for a; the byte 48 is `0`
 unfoldable pub valueOn : ℕ → List ℕ → ℕ
 valueOn a [] = a
 valueOn a (b ∷ s) = valueOn (a * 10 + (b - 48)) s

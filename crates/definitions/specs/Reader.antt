@@ -1,5 +1,5 @@
--- Readers: "Each reading step takes the rest of the file from where the last one stopped" (01, "The text"). A reader says what stands at the front of the
--- rest, with how many bytes it takes, or the number of a refusal.
+-- What is a step of reading? "Each reading step takes the rest of the file from where the last one stopped" (01, "The text"). A
+-- reader says what stands at the front of the rest, with how many bytes it takes, or the number of a refusal.
 use Prim.Native.Nat.{ℕ, _+_}
 use mathlib.Core.List.{List}
 use lib.ListN.{drop}

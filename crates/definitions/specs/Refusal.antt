@@ -1,10 +1,7 @@
--- Refusals (01, "What each number says"): a number, and the place that belongs to it.
+-- What is a refusal? A number, and the place that belongs to it (01, "What each number says").
 use Prim.Native.Nat.{ℕ, min}
 use Rattle.definitions.specs.Limits.{neededLimit}
-
-pub record Refusal : Type 0 where
-  pub number : ℕ
-  pub place : ℕ
+pub use Rattle.definitions.specs.declared.Refusal.{Refusal}
 
 abbrev pub refusal : ℕ → ℕ → Refusal
 refusal n p = record { number = n; place = p }

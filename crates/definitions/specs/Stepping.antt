@@ -1,5 +1,5 @@
--- A file walked one statement per call (01, "What must change shape"): "files are also walked by a reader that holds the file's bytes and hands out one statement per call, with the
--- same answers." A step is taken at an offset of the file.
+-- What does one step through a file hand out (01, "What must change shape")? "files are also walked by a reader that holds the
+-- file's bytes and hands out one statement per call, with the same answers." A step is taken at an offset of the file.
 use Prim.Native.Nat.{ℕ, zero, suc, _+_, min}
 use mathlib.Core.Bool.{cond}
 use mathlib.Core.List.{List, [], _∷_}

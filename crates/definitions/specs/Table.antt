@@ -1,4 +1,5 @@
--- Tables as lent columns (01, "Numbers and tables"): six lists, four with an entry for each row, two with an entry for each term.
+-- What does a table hold (01, "Numbers and tables")? Lent columns: six lists, four with an entry for each row, two with an entry
+-- for each term. What is put into them, and which rows are in them.
 use Prim.Native.Nat.{ℕ, _+_, min}
 use mathlib.Core.Bool.{Bool, true, cond, _&&_}
 use mathlib.Core.List.{List, [], _∷_, map}
@@ -8,7 +9,10 @@ use lib.IntN.{ℤ}
 use Rattle.definitions.specs.Lists.{over, joined}
 use Rattle.definitions.specs.Refusal.{Refusal, refusal, needed, Checked, refuse, accept}
 use Rattle.definitions.specs.Literal.{indexOf, isIndex}
-use Rattle.definitions.specs.Row.{Term, term, weightOf, literalOf, Kind, atLeast, atMost, equal, objective, Row, rowOf, Line, comment, row, termsOf}
+use Rattle.definitions.specs.Row.{Term, term, weightOf, literalOf, Kind, atLeast, atMost, equal, objective, rowOf, Line}
+use Rattle.definitions.specs.Row.{comment, row, termsOf}
+pub use Rattle.definitions.specs.declared.Totals.{Totals}
+pub use Rattle.definitions.specs.declared.Entry.{Entry}
 
 pub record Table : Type 0 where
   pub kinds : List ℕ
@@ -81,10 +85,6 @@ fitted t (accepted ls) =
     (refused (refusal 9 (needed (length ls))))
 
 -- what an accepted call answers: "rows and terms"
-pub record Totals : Type 0 where
-  pub rows : ℕ
-  pub terms : ℕ
-
 abbrev pub totalsOf : ℕ → ℕ → Totals
 totalsOf n m = record { rows = n; terms = m }
 
@@ -98,12 +98,6 @@ after (refused r) t = t
 after (accepted ls) t = filled ls t
 
 -- ---- columns into rows: "A call over a table takes every row lent; rows count from 0."
-pub record Entry : Type 0 where
-  pub kind : ℕ
-  pub first : ℕ
-  pub count : ℕ
-  pub bound : ℤ
-
 -- one for each row, up to the end of the shortest column
 unfoldable pub entriesOf : List ℕ → List ℕ → List ℕ → List ℤ → List Entry
 entriesOf [] fs ns bs = []
@@ -133,8 +127,8 @@ unfoldable pub indexed : List Term → Bool
 indexed [] = true
 indexed (t ∷ ts) = isIndex (indexOf (t .code)) && indexed ts
 
--- what the number in the column of kinds says: "comment, clause, cardinality and weighted constraints (at most, at least, equal), objective; a read row's kind is the weighted,
--- comment or objective kind of the same name"
+-- what the number in the column of kinds says: "comment, clause, cardinality and weighted constraints (at most, at least, equal),
+-- objective; a read row's kind is the weighted, comment or objective kind of the same name"
 pub data Sort : Type 0 where
   remark clause unknown : Sort
   weighted cardinality : Kind → Sort
@@ -166,7 +160,8 @@ abbrev pub andThen : {A B : Type 0} → Checked A → (A → Checked B) → Chec
 andThen (refuse n) f = refuse n
 andThen (accept a) f = f a
 
--- ---- rows of the read kinds, as normaliser and evaluator know them; 11: "kind unknown ..., terms outside their column, an index above its limit"
+-- ---- rows of the read kinds, as normaliser and evaluator know them; 11: "kind unknown ..., terms outside their column, an index
+-- above its limit"
 abbrev pub rowIn : Kind → Table → Entry → Checked Line
 rowIn k t e = cond (inColumn t e && indexed (termsAt t e)) (accept (row (rowOf k (e .bound) (termsAt t e)))) (refuse 11)
 

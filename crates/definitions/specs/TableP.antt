@@ -1,11 +1,12 @@
--- The examples that 01 marks P ("Examples on each side"), as one table: what is asked, and 01's answer. proofs/TableP.antt has the one statement over it.
+-- Which examples does 01 mark P ("Examples on each side")? One table: what is asked, and 01's answer. proofs/TableP.antt has the
+-- one statement over it.
 use Prim.Native.Nat.{ℕ}
-use Prim.Native.Char.{code}
 use Prim.Native.String as S
 use mathlib.Core.Bool.{Bool, true, false}
 use mathlib.Core.List.{List, [], _∷_}
 use lib.IntN.{ℤ, pos, negsuc}
 use Rattle.definitions.specs.Limits.{least}
+use Rattle.definitions.specs.Bytes as B
 use Rattle.definitions.specs.Refusal.{refusal}
 use Rattle.definitions.specs.Row.{term, atLeast, atMost, rowOf, Line, row}
 use Rattle.definitions.specs.Table.{Table, table, Outcome, refused, accepted}
@@ -13,10 +14,9 @@ use Rattle.definitions.specs.declared.Mode.{Mode}
 use Rattle.definitions.specs.File.{firstAt, reading}
 use Rattle.definitions.specs.Write.{writing}
 
--- a text's bytes
+-- a text's bytes, as Bytes says them
 abbrev pub bytes : S.String → List ℕ
-bytes S.[] = []
-bytes (S._∷_ c s) = code c ∷ bytes s
+bytes s = B.bytes s
 
 abbrev pub modeFrom : ℕ → Bool → Mode
 modeFrom first noNegated = record { first = first; plain = noNegated }
@@ -55,7 +55,8 @@ tableP =
     -- P2: at least 1
     ∷ reading-is 1 "1 x1 >= 1" (accepted (row (rowOf atLeast (pos 1) (term (pos 1) 0 ∷ [])) ∷ []))
     -- P3: two rows
-    ∷ reading-is 1 "1 x1>=1;-1 ~x2<=+3;" (accepted (row (rowOf atLeast (pos 1) (term (pos 1) 0 ∷ [])) ∷ row (rowOf atMost (pos 3) (term (negsuc 0) 3 ∷ [])) ∷ []))
+    ∷ reading-is 1 "1 x1>=1;-1 ~x2<=+3;"
+    (accepted (row (rowOf atLeast (pos 1) (term (pos 1) 0 ∷ [])) ∷ row (rowOf atMost (pos 3) (term (negsuc 0) 3 ∷ [])) ∷ []))
     -- P4: 8
     ∷ reading-is 1 "1 x1 < -9223372036854775808;" (refused (refusal 8 0))
     -- P5: at most -9223372036854775808

@@ -1,5 +1,5 @@
--- One statement at the front of the rest of a file (01, "The text"), with the refusals 2 to 8 in the order in which the text is met. Where 01 has a rule, the comment
--- has its sentence.
+-- What is one statement (01, "The text")? The one at the front of the rest of a file, with the refusals 2 to 8 in the order in
+-- which the text is met. Where 01 has a rule, the comment has its sentence.
 use Prim.Native.Nat.{ℕ, zero, suc, _+_, _-_}
 use mathlib.Core.Bool.{Bool, true, false, cond, _&&_, _||_}
 use mathlib.Core.List.{List, [], _∷_}
@@ -9,7 +9,8 @@ use lib.IntN.{ℤ, pos, _+ℤ_, _-ℤ_}
 use Rattle.definitions.specs.Lists.{startsWith}
 use Rattle.definitions.specs.Limits.{weightLimit, inI64}
 use Rattle.definitions.specs.Refusal.{Checked, refuse, accept}
-use Rattle.definitions.specs.Bytes.{isSign, isDigit, isAt, blanks, lineEnding, untilEnding, begins, classOf, minText, space, minus, semicolon, less, equals, greater, letterX, tilde}
+use Rattle.definitions.specs.Bytes.{isSign, isDigit, isAt, blanks, lineEnding, untilEnding, begins, classOf, minText, space}
+use Rattle.definitions.specs.Bytes.{minus, semicolon, less, equals, greater, letterX, tilde}
 use Rattle.definitions.specs.Reader.{Got, none, got, Reader, more, chain, done, fail}
 use Rattle.definitions.specs.Number.{leading, value, number}
 use Rattle.definitions.specs.Literal.{index, codeOf}

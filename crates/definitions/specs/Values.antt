@@ -1,12 +1,13 @@
--- A solver's value lines (02, A1): "Bring over `extend_from_vline` of src/types.rs with its three line forms: signed numbers, one string of zeros and ones, and `x` tokens with first index 1."
--- A block of lines says literals that become true; two rows of words hold the values and which of them are known.
+-- What do a solver's value lines say (02, A1)? "Bring over `extend_from_vline` of src/types.rs with its three line forms: signed
+-- numbers, one string of zeros and ones, and `x` tokens with first index 1." A block of lines says literals that become true; two
+-- rows of words hold the values and which of them are known.
 use Prim.Native.Nat.{ℕ, _+_, _-_, _*_, _/_, _%_, _^_, min, max}
 use mathlib.Core.Bool.{Bool, true, false, cond, not, _&&_, _||_}
 use mathlib.Core.List.{List, [], _∷_, _++_}
 use lib.Dec.{leb, eqb}
 use lib.ListN.{length, getD, drop, set}
 use Rattle.definitions.specs.Limits.{indexLimit}
-use Rattle.definitions.specs.Refusal.{Refusal, refusal, Checked, refuse, accept}
+use Rattle.definitions.specs.Refusal.{refusal, Checked, refuse, accept}
 use Rattle.definitions.specs.Bytes.{lf, plus, minus, tilde, letterX}
 use Rattle.definitions.specs.Number.{leading, value}
 use Rattle.definitions.specs.Literal.{codeOf, indexOf, negated, opposite, index}
@@ -77,7 +78,8 @@ pub data Item : Type 0 where
 pub data Spot : Type 0 where
   front between inside : Spot
 
--- Lines are parted by LF, tokens by white space; behind a last LF no line follows. p is the offset. Nothing is met behind a line without `v`.
+-- Lines are parted by LF, tokens by white space; behind a last LF no line follows. p is the offset. Nothing is met behind a line
+-- without `v`.
 unfoldable pub itemsFrom : Spot → ℕ → List ℕ → List Item
 itemsFrom w p [] = []
 itemsFrom front p (b ∷ s) = elim (eqb b letterV) [ true ↦ itemsFrom between (p + 1) s | false ↦ untagged p ∷ [] ]

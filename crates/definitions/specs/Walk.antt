@@ -1,4 +1,5 @@
--- Items one after the other, "each from where the last one stopped" (01, "The text"): statements in a file, terms in a sum. A step says what stands at the front.
+-- How do items follow one another, "each from where the last one stopped" (01, "The text")? Statements in a file, terms in a sum.
+-- A step says what stands at the front.
 use Prim.Native.Nat.{ℕ, zero, suc, pred, _+_}
 use mathlib.Core.List.{List, [], _∷_}
 use Rattle.definitions.specs.Refusal.{Refusal, refusal}
@@ -25,7 +26,11 @@ module _ {A : Type 0} (step : List ℕ → Step A) (place : ℕ → A → A) whe
   walk [] k at = items [] at
   walk (b ∷ s) (suc k) at = walk s k (at + 1)
   walk (b ∷ s) zero at =
-      elim (step (b ∷ s)) [ stop ↦ items [] at | bad n k ↦ broken (refusal n (at + k)) | item a n ↦ before (place at a) (walk s (pred n) (at + 1)) ]
+      elim (step (b ∷ s)) [
+        | stop ↦ items [] at
+        | bad n k ↦ broken (refusal n (at + k))
+        | item a n ↦ before (place at a) (walk s (pred n) (at + 1))
+      ]
 
   unfoldable pub all : List ℕ → Walked A
   all s = walk s 0 0

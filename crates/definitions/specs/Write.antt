@@ -1,4 +1,5 @@
--- The lines written (01, "The lines written"), for each row of a table, in both literal modes, with the refusals in their order and the length needed.
+-- Which lines are written (01, "The lines written")? Those of each row of a table, in both literal modes, with the refusals in
+-- their order and the length needed.
 use Prim.Native.Nat.{ℕ, zero, suc, _+_}
 use mathlib.Core.Bool.{Bool, true, false, cond, not, _&&_}
 use mathlib.Core.List.{List, [], _∷_, _++_, map}
@@ -9,11 +10,12 @@ use lib.Signed.{nonNeg}
 use Rattle.definitions.specs.Lists.{over, joined}
 use Rattle.definitions.specs.Limits.{weightLimit, inI64}
 use Rattle.definitions.specs.Refusal.{refusal, needed, Checked, refuse, accept}
-use Rattle.definitions.specs.Bytes.{minText, lf, space, star, semicolon, less, equals, greater, letterX, tilde}
+use Rattle.definitions.specs.Bytes.{bytes, minText, lf, space, star, letterX, tilde}
 use Rattle.definitions.specs.Number.{integerText, decimal}
 use Rattle.definitions.specs.Literal.{indexOf, negated, opposite, plain, fileNumber}
 use Rattle.definitions.specs.Row.{Term, term, weightOf, Kind, atLeast, atMost, equal, objective, Row, rowOf, sizes}
-use Rattle.definitions.specs.Table.{Table, Outcome, refused, accepted, Entry, entries, termsAt, inColumn, indexed, Sort, remark, clause, unknown, weighted, cardinality, sortOf, andThen, rowByRow}
+use Rattle.definitions.specs.Table.{Table, Outcome, refused, accepted, Entry, entries, termsAt, inColumn, indexed, Sort}
+use Rattle.definitions.specs.Table.{remark, clause, unknown, weighted, cardinality, sortOf, andThen, rowByRow}
 use Rattle.definitions.specs.declared.Mode.{Mode}
 use Rattle.definitions.specs.Normal.{totalBy, shifted}
 
@@ -68,16 +70,13 @@ apart first t = space ∷ termText first t
 
 -- `;` and a line ending
 abbrev pub closed : List ℕ
-closed = semicolon ∷ lf ∷ []
+closed = bytes ";\n"
 
 unfoldable pub remarkText : List ℕ → List ℕ
 remarkText t = star ∷ space ∷ (t ++ (lf ∷ []))
 
--- "objective offset for previous objective: "
 abbrev pub offsetWords : List ℕ
-offsetWords =
-    111 ∷ 98 ∷ 106 ∷ 101 ∷ 99 ∷ 116 ∷ 105 ∷ 118 ∷ 101 ∷ 32 ∷ 111 ∷ 102 ∷ 102 ∷ 115 ∷ 101 ∷ 116 ∷ 32 ∷ 102 ∷ 111 ∷ 114 ∷ 32
-    ∷ 112 ∷ 114 ∷ 101 ∷ 118 ∷ 105 ∷ 111 ∷ 117 ∷ 115 ∷ 32 ∷ 111 ∷ 98 ∷ 106 ∷ 101 ∷ 99 ∷ 116 ∷ 105 ∷ 118 ∷ 101 ∷ 58 ∷ 32 ∷ []
+offsetWords = bytes "objective offset for previous objective: "
 
 abbrev pub isZero : ℤ → Bool
 isZero (pos zero) = true
@@ -94,9 +93,9 @@ comparisonText op b = op ++ (space ∷ (integerText b ++ closed))
 
 -- "An objective without terms is written `min:;`."
 abbrev pub textBy : Kind → ℕ → ℤ → List Term → List ℕ
-textBy atLeast first b ts = joined (spaced first) ts ++ comparisonText (greater ∷ equals ∷ []) b
-textBy atMost first b ts = joined (spaced first) ts ++ comparisonText (less ∷ equals ∷ []) b
-textBy equal first b ts = joined (spaced first) ts ++ comparisonText (equals ∷ []) b
+textBy atLeast first b ts = joined (spaced first) ts ++ comparisonText (bytes ">=") b
+textBy atMost first b ts = joined (spaced first) ts ++ comparisonText (bytes "<=") b
+textBy equal first b ts = joined (spaced first) ts ++ comparisonText (bytes "=") b
 textBy objective first b ts = minText ++ (joined (apart first) ts ++ (closed ++ offsetText b))
 
 unfoldable pub rowText : ℕ → Row → List ℕ
@@ -126,7 +125,8 @@ unfoldable pub oneLine : List ℕ → Bool
 oneLine [] = true
 oneLine (b ∷ s) = not (eqb b lf) && oneLine s
 
--- 11: "kind unknown ..., terms outside their column, an index above its limit, or, for writing, a comment outside its lent text, a negative weight or a negative cardinality bound"
+-- 11: "kind unknown ..., terms outside their column, an index above its limit, or, for writing, a comment outside its lent text, a
+-- negative weight or a negative cardinality bound"
 abbrev pub itemBy : Sort → Table → List ℕ → Entry → Checked Item
 itemBy remark t text e =
     cond (leb (e .first + e .count) (length text))
@@ -138,12 +138,14 @@ itemBy unknown t text e = refuse 11
 itemBy (weighted k) t text e =
     cond (inColumn t e && (indexed (termsAt t e) && weighs (termsAt t e))) (accept (line (rowOf k (e .bound) (termsAt t e)))) (refuse 11)
 itemBy (cardinality k) t text e =
-    cond (inColumn t e && (indexed (termsAt t e) && nonNeg (e .bound))) (accept (line (rowOf k (e .bound) (map unitTerm (termsAt t e))))) (refuse 11)
+    cond (inColumn t e && (indexed (termsAt t e) && nonNeg (e .bound)))
+    (accept (line (rowOf k (e .bound) (map unitTerm (termsAt t e))))) (refuse 11)
 
 unfoldable pub itemIn : Table → List ℕ → Entry → Checked Item
 itemIn t text e = itemBy (sortOf (e .kind)) t text e
 
--- ---- the order of refusals: "Order per row: 11, 15, 13, 5 (file number), 8 (weight sum, then the bound before and after the fall, or the offset)"
+-- ---- the order of refusals: "Order per row: 11, 15, 13, 5 (file number), 8 (weight sum, then the bound before and after the fall,
+-- or the offset)"
 
 -- not 13: "constraint without terms, writing"
 abbrev pub hasTerms : Kind → List Term → Bool

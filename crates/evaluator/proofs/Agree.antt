@@ -1,5 +1,5 @@
--- What an accepted evaluation is worth where variables are unknown: sum, truth and value are those under every assignment that agrees with the words on the known
--- variables, whatever it says of the others.
+-- What an accepted evaluation is worth where variables are unknown: sum, truth and value are those under every assignment that
+-- agrees with the words on the known variables, whatever it says of the others.
 use mathlib.Core.Path.{_≡_, refl, sym, ap, _∙_}
 use mathlib.Core.Bool.{Bool, true}
 use mathlib.Core.List.{List, [], _∷_}
@@ -60,9 +60,11 @@ module _ (t : Table) (i : ℕ) (ws ks : List ℕ) (b : Assignment)
   pub agree-constraint : (sum : ℤ) (h : Bool) (ones : ℕ) → evaluatingKnown t i ws ks ≡ accepted (constraint sum h ones)
       → ConstraintMeant t i (isKnown (looked ws) (looked ks)) b sum h
   agree-constraint sum h ones e =
-      constraint-agrees (isKnown (looked ws) (looked ks)) (assigned (looked ws)) b agree t i sum h (known-constraint t i ws ks sum h ones e .0)
+      constraint-agrees (isKnown (looked ws) (looked ks)) (assigned (looked ws)) b agree t i sum h
+      (known-constraint t i ws ks sum h ones e .0)
 
   pub agree-objective : (value : ℤ) (ones : ℕ) → evaluatingKnown t i ws ks ≡ accepted (goal value ones)
       → ObjectiveMeant t i (isKnown (looked ws) (looked ks)) b value
   agree-objective value ones e =
-      objective-agrees (isKnown (looked ws) (looked ks)) (assigned (looked ws)) b agree t i value (known-objective t i ws ks value ones e .0)
+      objective-agrees (isKnown (looked ws) (looked ks)) (assigned (looked ws)) b agree t i value
+      (known-objective t i ws ks value ones e .0)

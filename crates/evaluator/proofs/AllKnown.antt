@@ -29,9 +29,11 @@ module _ (ws ks : List ℕ) (all : (v : ℕ) → v < 64 * length ws → assigned
   known-ones : knownOnes ws ks ≡ onesOf ws
   unfolding knownOnes onesOf
   known-ones =
-      true-alike (λ v. isKnown ws ks v && assigned ws v) (assigned ws) (64 * length ws) (λ v h. rw (known-within v, lt-ltb v (64 * length ws) h))
+      true-alike (λ v. isKnown ws ks v && assigned ws v) (assigned ws) (64 * length ws)
+      (λ v h. rw (known-within v, lt-ltb v (64 * length ws) h))
 
-  known-all : (t : Table) (i : ℕ) → evaluatingBy (within ws) (assigned ws) (onesOf ws) t i ≡ evaluatingBy (isKnown ws ks) (assigned ws) (knownOnes ws ks) t i
+  known-all : (t : Table) (i : ℕ)
+      → evaluatingBy (within ws) (assigned ws) (onesOf ws) t i ≡ evaluatingBy (isKnown ws ks) (assigned ws) (knownOnes ws ks) t i
   known-all t i =
       let p : isKnown ws ks ≡ within ws = fun-ext known-within in
       sym (ap₂ (λ (has : ℕ → Bool) (n : ℕ). evaluatingBy has (assigned ws) n t i) p known-ones)
@@ -55,5 +57,6 @@ pub all-ones : (t : Table) (i : ℕ) (ws : List ℕ) → evaluating t i ws ≡ e
 unfolding assigned
 all-ones t i ws =
     all-known t i ws (replicate (length ws) (2 ^ 64 - 1))
-    (λ v h. ap (λ (x : ℕ). bitOf x (v % 64)) (getD-replicate (length ws) (v / 64) (2 ^ 64 - 1) 0 (omega (arith, h, length-take wordLimit ws)))
+    (λ v h. ap (λ (x : ℕ). bitOf x (v % 64))
+    (getD-replicate (length ws) (v / 64) (2 ^ 64 - 1) 0 (omega (arith, h, length-take wordLimit ws)))
     ∙ full-bit (v % 64) (omega arith))

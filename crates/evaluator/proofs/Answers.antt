@@ -1,4 +1,5 @@
--- What each step of the evaluator answers is what the definition says: a row whose terms passed, a row's terms, an entry of the table, a row of the table.
+-- What each step of the evaluator answers is what the definition says: a row whose terms passed, a row's terms, an entry of the
+-- table, a row of the table.
 use mathlib.Core.Path.{_≡_, refl, sym, ap, _∙_}
 use mathlib.Core.Bool.{Bool, true, false, cond}
 use mathlib.Core.Logic.{_⊎_, inl, inr}
@@ -14,7 +15,8 @@ use lib.Seq.{take-all}
 use Rattle.definitions.specs.Limits.{weightLimit}
 use Rattle.definitions.specs.Refusal.{refusal, Checked, refuse, accept}
 use Rattle.definitions.specs.Row.{Term, Kind, atLeast, atMost, equal, objective, Row, rowOf, Line, row}
-use Rattle.definitions.specs.Table.{Table, rowRoom, refused, accepted, Entry, termsOn, indexed, remark, sortOf, lineIn, andThen, table}
+use Rattle.definitions.specs.Table.{Table, rowRoom, refused, accepted, termsOn, indexed, remark, sortOf, lineIn, andThen, table}
+use Rattle.definitions.specs.declared.Entry.{Entry}
 use Rattle.definitions.specs.Meaning.{Assignment, sumOf, holdsBy, holds, valueOf, assigned}
 use Rattle.definitions.specs.Evaluate.{Evaluated as Found, constraint, foundBy, found, foundIn, onPlace, evaluatingBy}
 use Rattle.columns.specs.Parts.{codesIndexed, weightSizes}
@@ -28,7 +30,8 @@ use Rattle.evaluator.specs.Parts.{hasBy, codesCovered, valued, foundOf, 
 use Rattle.evaluator.proofs.Literals.{covered-on}
 
 -- a refusal, where the definition has it
-pub refused-is : (number place : ℕ) (r : Evaluated) (c : Checked Found) → r ≡ Refused number place → c ≡ refuse number → saidEvaluated r ≡ onPlace place c
+pub refused-is : (number place : ℕ) (r : Evaluated) (c : Checked Found) → r ≡ Refused number place → c ≡ refuse number
+    → saidEvaluated r ≡ onPlace place c
 refused-is number place r c e q = rw (e, q)
 
 -- ---- a row of which nothing is left to ask
@@ -64,13 +67,15 @@ module _ (kind : ℕ) (bound : ℤ) (ws : List ℤ) (cs : List ℕ) (all : Bool)
     module _ (h : weightSizes ws ≤ weightLimit) where
       pub terms-12 : codesCovered (hasBy all words known) cs ≡ false → foundOf kind bound (termsOn ws cs) all words known ones ≡ refuse 12
       unfolding found
-      terms-12 c = rw (indexed-on ws cs l, i, sizes-on ws cs l, le-leb (weightSizes ws) weightLimit h, covered-on (hasBy all words known) ws cs l, c)
+      terms-12 c =
+          rw (indexed-on ws cs l, i, sizes-on ws cs l, le-leb (weightSizes ws) weightLimit h, covered-on (hasBy all words known) ws cs l, c)
 
       pub terms-found : codesCovered (hasBy all words known) cs ≡ true
           → foundOf kind bound (termsOn ws cs) all words known ones
           ≡ foundBy (readKind kind) (assigned words) ones (rowOf (readKind kind) bound (termsOn ws cs))
       unfolding found
-      terms-found c = rw (indexed-on ws cs l, i, sizes-on ws cs l, le-leb (weightSizes ws) weightLimit h, covered-on (hasBy all words known) ws cs l, c)
+      terms-found c =
+          rw (indexed-on ws cs l, i, sizes-on ws cs l, le-leb (weightSizes ws) weightLimit h, covered-on (hasBy all words known) ws cs l, c)
 
 -- ---- an entry of a table with these two columns of terms
 
@@ -100,7 +105,8 @@ module _ (e : Entry) (ws : List ℤ) (cs : List ℕ) (all : Bool) (words known :
     entry-outside o = rw (read-kind (e .kind) (λ q. omega arith) g .sort, o)
 
     pub entry-inside : leb (e .first + e .count) (min (length ws) (length cs)) ≡ true
-        → foundAt e ws cs all words known ones ≡ foundOf (e .kind) (e .bound) (termsOn (weightsAt columns e) (literalsAt columns e)) all words known ones
+        → foundAt e ws cs all words known ones
+        ≡ foundOf (e .kind) (e .bound) (termsOn (weightsAt columns e) (literalsAt columns e)) all words known ones
     unfolding lineIn
     entry-inside o =
         let ts = termsOn (weightsAt columns e) (literalsAt columns e) in
@@ -119,7 +125,8 @@ module _ (t : Table) (i : ℕ) where
   unfolding evaluatingBy
   row-there all words known ones h =
       rw (entries-from t i h)
-      (ap (λ (l : Checked Line). onPlace i (andThen l (foundIn (hasBy all words known) (assigned words) ones))) (sym (line-by-terms t (entryAt t i))))
+      (ap (λ (l : Checked Line). onPlace i (andThen l (foundIn (hasBy all words known) (assigned words) ones)))
+      (sym (line-by-terms t (entryAt t i))))
 
 -- ---- the words that are looked at
 

@@ -68,7 +68,8 @@ module _ (all : Bool) (ws ks : List ℕ) where
   counted-none = record { few = omega arith; ones = refl }
 
   -- the bits of word i
-  bit-at : (i : ℕ) → i < length ws → (k : ℕ) → k < 64 → knownTrue all ws ks (64 * i + k) ≡ bitOf (bitAnd (getD ws i 0) (knownWord all ks i)) k
+  bit-at : (i : ℕ) → i < length ws → (k : ℕ) → k < 64
+      → knownTrue all ws ks (64 * i + k) ≡ bitOf (bitAnd (getD ws i 0) (knownWord all ks i)) k
   unfolding assigned
   bit-at i h k g =
       let q : (64 * i + k) / 64 ≡ i = omega arith in
@@ -83,7 +84,9 @@ module _ (all : Bool) (ws ks : List ℕ) where
       let e : 64 * (i + 1) ≡ 64 * i + 64 = omega arith in
       record {
         few = omega (arith, c .few, ones-le 64 x f);
-        ones = rw e (ap₂ (λ (a b : ℕ). a + b) (c .ones) (sym (word-bits (λ k. knownTrue all ws ks (64 * i + k)) x f (bit-at i h))) ∙ sym (true-split (knownTrue all ws ks) (64 * i) 64));
+        ones =
+            rw e (ap₂ (λ (a b : ℕ). a + b) (c .ones) (sym (word-bits (λ k. knownTrue all ws ks (64 * i + k)) x f (bit-at i h)))
+            ∙ sym (true-split (knownTrue all ws ks) (64 * i) 64));
       }
 
   -- where all are known they are the words' ones

@@ -1,5 +1,5 @@
 -- A row that is judged is evaluated with no ones: sum, truth and value do not depend on their number.
-use mathlib.Core.Path.{_≡_, refl, ap, _∙_}
+use mathlib.Core.Path.{_≡_, refl}
 use mathlib.Core.Bool.{Bool, true, false, cond}
 use mathlib.Core.List.{List, [], _∷_}
 use Prim.Native.Nat.{ℕ}
@@ -8,12 +8,15 @@ use lib.ListN.{drop}
 use Rattle.definitions.specs.Limits.{weightLimit, inI64}
 use Rattle.definitions.specs.Refusal.{Checked, refuse, accept}
 use Rattle.definitions.specs.Row.{Kind, atLeast, atMost, equal, objective, Row, Line, comment, row, sizes}
-use Rattle.definitions.specs.Table.{Table, Entry, entries, lineIn, andThen}
+use Rattle.definitions.specs.Table.{Table, entries, lineIn, andThen}
+use Rattle.definitions.specs.declared.Entry.{Entry}
 use Rattle.definitions.specs.Meaning.{Assignment, valueOf}
-use Rattle.definitions.specs.Evaluate.{Evaluated, goal, covered, foundBy, found, foundIn, frontBy, onPlace, evaluatingBy, withoutOnes}
+use Rattle.definitions.specs.Evaluate.{goal, covered, foundBy, found, foundIn, frontBy, onPlace, evaluatingBy, withoutOnes}
 
 module _ (i : ℕ) (has : ℕ → Bool) (a : Assignment) (ones : ℕ) where
-  by-value : (b : Bool) (r : Row) → onPlace i (cond b (accept (goal (valueOf a r) 0)) (refuse 8)) ≡ withoutOnes (onPlace i (cond b (accept (goal (valueOf a r) ones)) (refuse 8)))
+  by-value : (b : Bool) (r : Row)
+      → onPlace i (cond b (accept (goal (valueOf a r) 0)) (refuse 8))
+      ≡ withoutOnes (onPlace i (cond b (accept (goal (valueOf a r) ones)) (refuse 8)))
   by-value true r = refl
   by-value false r = refl
 
@@ -39,7 +42,8 @@ module _ (i : ℕ) (has : ℕ → Bool) (a : Assignment) (ones : ℕ) where
   by-entry (refuse n) = refl
   by-entry (accept l) = by-line l
 
-  by-front : (es : List Entry) (t : Table) → onPlace i (frontBy es t (foundIn has a 0)) ≡ withoutOnes (onPlace i (frontBy es t (foundIn has a ones)))
+  by-front : (es : List Entry) (t : Table)
+      → onPlace i (frontBy es t (foundIn has a 0)) ≡ withoutOnes (onPlace i (frontBy es t (foundIn has a ones)))
   by-front [] t = refl
   by-front (e ∷ es) t = by-entry (lineIn t e)
 

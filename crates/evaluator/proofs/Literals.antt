@@ -37,6 +37,7 @@ covered-on has [] (c ∷ cs) h = absurd (omega arith)
 covered-on has (w ∷ ws) [] h = absurd (omega arith)
 covered-on has (w ∷ ws) (c ∷ cs) h = ap (λ (b : Bool). has (indexOf c) && b) (covered-on has ws cs (omega arith))
 
-pub covered-at : (words cs : List ℕ) (i : ℕ) → codesCovered (within words) cs ≡ true → i < length cs → indexOf (getD cs i 0) < 64 * length words
+pub covered-at : (words cs : List ℕ) (i : ℕ) → codesCovered (within words) cs ≡ true → i < length cs
+    → indexOf (getD cs i 0) < 64 * length words
 covered-at words cs i e h =
     ltb-true (indexOf (getD cs i 0)) (64 * length words) (every-at (λ c. within words (indexOf c)) cs i e h)

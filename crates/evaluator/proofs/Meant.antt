@@ -1,6 +1,6 @@
--- What an accepted answer means: the row that the table holds at the place, of which every variable has a value, its sum under the assignment, whether it holds, or
--- its value, and the number of true variables. The assignment is that of the words that are looked at. Said once for any assignment, then for words of which
--- everything is known and for words with a second row that says what is.
+-- What an accepted answer means: the row that the table holds at the place, of which every variable has a value, its sum under the
+-- assignment, whether it holds, or its value, and the number of true variables. The assignment is that of the words that are looked
+-- at. Said once for any assignment, then for words of which everything is known and for words with a second row that says what is.
 use mathlib.Core.Path.{_≡_, refl, sym, _∙_}
 use mathlib.Core.Bool.{Bool, true, false, cond}
 use mathlib.Core.List.{List}
@@ -16,7 +16,8 @@ use Rattle.definitions.specs.Refusal.{Checked, refuse, accept}
 use Rattle.definitions.specs.Row.{Kind, atLeast, atMost, equal, objective, Row, Line, comment, row, sizes}
 use Rattle.definitions.specs.Table.{Table, table, rowRoom, accepted, lineIn, andThen}
 use Rattle.definitions.specs.Meaning.{Assignment, sumOf, holds, valueOf, assigned, onesOf, isKnown}
-use Rattle.definitions.specs.Evaluate.{Evaluated as Found, constraint, goal, covered, foundBy, found, foundIn, onPlace, evaluatingBy, within, evaluating, knownOnes, evaluatingKnown}
+use Rattle.definitions.specs.Evaluate.{Evaluated as Found, constraint, goal, covered, foundBy, found, foundIn, onPlace}
+use Rattle.definitions.specs.Evaluate.{evaluatingBy, within, evaluating, knownOnes, evaluatingKnown}
 use Rattle.columns.proofs.Terms.{entryAt, entries-from}
 use Rattle.evaluator.specs.declared.Evaluated.the-variants.{Constraint, Objective}
 use Rattle.evaluator.proofs.Answers.{row-missing}
@@ -59,7 +60,8 @@ module _ (has : ℕ → Bool) (a : Assignment) (n : ℕ) where
   unfolding found
   found-by r x e = cases (leb (sizes (r .terms)) weightLimit) (covered has (r .terms)) e
     where
-      cases : (b d : Bool) → cond b (cond d (foundBy (r .kind) a n r) (refuse 12)) (refuse 8) ≡ accept x → (d ≡ true) × (foundBy (r .kind) a n r ≡ accept x)
+      cases : (b d : Bool) → cond b (cond d (foundBy (r .kind) a n r) (refuse 12)) (refuse 8) ≡ accept x
+          → (d ≡ true) × (foundBy (r .kind) a n r ≡ accept x)
       cases true true e = (refl, e)
       cases true false e = no-refusal 12 x e
       cases false d e = no-refusal 8 x e
@@ -71,7 +73,8 @@ module _ (has : ℕ → Bool) (a : Assignment) (n : ℕ) where
     covers : covered has (held .terms) ≡ true
     is-found : foundBy (held .kind) a n held ≡ accept x
 
-  line-entered : (t : Table) (i : ℕ) (x : Found) → i < rowRoom t → (l : Checked Line) → lineIn t (entryAt t i) ≡ l → andThen l (foundIn has a n) ≡ accept x
+  line-entered : (t : Table) (i : ℕ) (x : Found) → i < rowRoom t → (l : Checked Line) → lineIn t (entryAt t i) ≡ l
+      → andThen l (foundIn has a n) ≡ accept x
       → Entered t i x
   line-entered t i x h (refuse m) q e = no-refusal m x e
   line-entered t i x h (accept (comment f m b)) q e = no-refusal 11 x e
@@ -85,7 +88,8 @@ module _ (has : ℕ → Bool) (a : Assignment) (n : ℕ) where
     where
       cases : Dec (i < rowRoom t) → Entered t i x
       cases (yes h) =
-          line-entered t i x h (lineIn t (entryAt t i)) refl (placed i (andThen (lineIn t (entryAt t i)) (foundIn has a n)) x (rw (entries-from t i h) at e))
+          line-entered t i x h (lineIn t (entryAt t i)) refl
+          (placed i (andThen (lineIn t (entryAt t i)) (foundIn has a n)) x (rw (entries-from t i h) at e))
       cases (no h) = let q = sym (row-missing t i has a n (omega arith)) ∙ e in let z : _≡_ {A = ℕ} 0 1 = cc in absurd (omega arith)
 
   module _ (r : Row) where
@@ -103,24 +107,28 @@ module _ (has : ℕ → Bool) (a : Assignment) (n : ℕ) where
     no-constraint {ℓ} : {X : Type ℓ} (sum value : ℤ) (h : Bool) (ones m : ℕ) → accept (constraint sum h ones) ≡ accept (goal value m) → X
     no-constraint sum value h ones m e = let z : _≡_ {A = ℕ} 0 1 = cc in absurd (omega arith)
 
-    objective-parts : (value : ℤ) (ones : ℕ) (k : Kind) → foundBy k a n r ≡ accept (goal value ones) → (k ≡ objective) × (value ≡ valueOf a r) × (ones ≡ n)
+    objective-parts : (value : ℤ) (ones : ℕ) (k : Kind) → foundBy k a n r ≡ accept (goal value ones)
+        → (k ≡ objective) × (value ≡ valueOf a r) × (ones ≡ n)
     objective-parts value ones atLeast e = no-constraint _ _ _ _ _ e
     objective-parts value ones atMost e = no-constraint _ _ _ _ _ e
     objective-parts value ones equal e = no-constraint _ _ _ _ _ e
     objective-parts value ones objective e = (refl, cases (inI64 (valueOf a r)) e .0, cases (inI64 (valueOf a r)) e .1)
       where
-        cases : (b : Bool) → cond b (accept (goal (valueOf a r) n)) (refuse 8) ≡ accept (goal value ones) → (value ≡ valueOf a r) × (ones ≡ n)
+        cases : (b : Bool) → cond b (accept (goal (valueOf a r) n)) (refuse 8) ≡ accept (goal value ones)
+            → (value ≡ valueOf a r) × (ones ≡ n)
         cases true e = ((cc), (cc))
         cases false e = no-refusal 8 (goal value ones) e
 
   module _ (t : Table) (i : ℕ) where
-    pub by-constraint : (sum : ℤ) (h : Bool) (ones : ℕ) → evaluatingBy has a n t i ≡ accepted (constraint sum h ones) → ConstraintMeant t i has a sum h × (ones ≡ n)
+    pub by-constraint : (sum : ℤ) (h : Bool) (ones : ℕ) → evaluatingBy has a n t i ≡ accepted (constraint sum h ones)
+        → ConstraintMeant t i has a sum h × (ones ≡ n)
     by-constraint sum h ones e =
         let m = entered t i (constraint sum h ones) e in
         let p = constraint-parts (m .held) sum h ones (m .held .kind) (m .is-found) in
         (record { held = m .held; is-held = m .is-held; constrains = p .0; covers = m .covers; sum-is = p .1; holds-is = p .2 }, p .3)
 
-    pub by-objective : (value : ℤ) (ones : ℕ) → evaluatingBy has a n t i ≡ accepted (goal value ones) → ObjectiveMeant t i has a value × (ones ≡ n)
+    pub by-objective : (value : ℤ) (ones : ℕ) → evaluatingBy has a n t i ≡ accepted (goal value ones)
+        → ObjectiveMeant t i has a value × (ones ≡ n)
     by-objective value ones e =
         let m = entered t i (goal value ones) e in
         let p = objective-parts (m .held) value ones (m .held .kind) (m .is-found) in
@@ -174,16 +182,19 @@ pub evaluate-objective : (κs : _) (a : _) (value : ℤ) (ones : ℕ) (s : _) �
     × (ones ≡ onesOf (looked (now (a .1 .1 .1 .1 .1 .1 .1 .0))))
 evaluate-objective κs a value ones s p = evaluating-objective _ _ _ value ones (sym p)
 
-pub evaluate-known-constraint : (κs : _) (a : _) (sum : ℤ) (h : Bool) (ones : ℕ) (s : _) → evaluate-known.Post κs a (Constraint sum h ones) s
+pub evaluate-known-constraint : (κs : _) (a : _) (sum : ℤ) (h : Bool) (ones : ℕ) (s : _)
+    → evaluate-known.Post κs a (Constraint sum h ones) s
     → ConstraintMeant
     (table (now (a .0)) (now (a .1 .0)) (now (a .1 .1 .0)) (now (a .1 .1 .1 .0)) (now (a .1 .1 .1 .1 .0)) (now (a .1 .1 .1 .1 .1 .0)))
-    (a .1 .1 .1 .1 .1 .1 .0) (isKnown (looked (now (a .1 .1 .1 .1 .1 .1 .1 .0))) (looked (now (a .1 .1 .1 .1 .1 .1 .1 .1 .0)))) (assigned (looked (now (a .1 .1 .1 .1 .1 .1 .1 .0)))) sum h
+    (a .1 .1 .1 .1 .1 .1 .0) (isKnown (looked (now (a .1 .1 .1 .1 .1 .1 .1 .0))) (looked (now (a .1 .1 .1 .1 .1 .1 .1 .1 .0))))
+    (assigned (looked (now (a .1 .1 .1 .1 .1 .1 .1 .0)))) sum h
     × (ones ≡ knownOnes (looked (now (a .1 .1 .1 .1 .1 .1 .1 .0))) (looked (now (a .1 .1 .1 .1 .1 .1 .1 .1 .0))))
 evaluate-known-constraint κs a sum h ones s p = known-constraint _ _ _ _ sum h ones (sym p)
 
 pub evaluate-known-objective : (κs : _) (a : _) (value : ℤ) (ones : ℕ) (s : _) → evaluate-known.Post κs a (Objective value ones) s
     → ObjectiveMeant
     (table (now (a .0)) (now (a .1 .0)) (now (a .1 .1 .0)) (now (a .1 .1 .1 .0)) (now (a .1 .1 .1 .1 .0)) (now (a .1 .1 .1 .1 .1 .0)))
-    (a .1 .1 .1 .1 .1 .1 .0) (isKnown (looked (now (a .1 .1 .1 .1 .1 .1 .1 .0))) (looked (now (a .1 .1 .1 .1 .1 .1 .1 .1 .0)))) (assigned (looked (now (a .1 .1 .1 .1 .1 .1 .1 .0)))) value
+    (a .1 .1 .1 .1 .1 .1 .0) (isKnown (looked (now (a .1 .1 .1 .1 .1 .1 .1 .0))) (looked (now (a .1 .1 .1 .1 .1 .1 .1 .1 .0))))
+    (assigned (looked (now (a .1 .1 .1 .1 .1 .1 .1 .0)))) value
     × (ones ≡ knownOnes (looked (now (a .1 .1 .1 .1 .1 .1 .1 .0))) (looked (now (a .1 .1 .1 .1 .1 .1 .1 .1 .0))))
 evaluate-known-objective κs a value ones s p = known-objective _ _ _ _ value ones (sym p)

@@ -1,8 +1,10 @@
--- `evaluate`, `evaluate_known` and `judge` have one possible answer for each input: two that a contract allows are equal. They change nothing that they are lent.
+-- `evaluate`, `evaluate_known` and `judge` have one possible answer for each input: two that a contract allows are equal. They
+-- change nothing that they are lent.
 use mathlib.Core.Path.{_≡_, sym, ap, ap₂, _∙_}
 use Prim.Native.Nat.{ℕ}
 use native.Mathlib.Omega.{arith}
-use Rattle.definitions.specs.Refusal.{Refusal, refusal}
+use Rattle.definitions.specs.Refusal.{refusal}
+use Rattle.definitions.specs.declared.Refusal.{Refusal}
 use Rattle.definitions.specs.Table.{Outcome, refused}
 use Rattle.definitions.specs.Evaluate.{Evaluated as Found}
 use Rattle.evaluator.specs.Said.{saidEvaluated}

@@ -29,4 +29,5 @@ same-test x y f g = cases (eqb (ofZ w64 x) (ofZ w64 y)) refl
         let k : leZ y x ≡ true = is-le y x (omega (arith, ap up q, ap dn q)) in
         rw (h, k)
     cases false e =
-        differ (λ q. eqb-false (ofZ w64 x) (ofZ w64 y) e (ap (ofZ w64) q)) (decLe (up x + dn y) (up y + dn x)) (decLe (up y + dn x) (up x + dn y))
+        differ (λ q. eqb-false (ofZ w64 x) (ofZ w64 y) e (ap (ofZ w64) q)) (decLe (up x + dn y) (up y + dn x))
+        (decLe (up y + dn x) (up x + dn y))

@@ -67,7 +67,10 @@ module _ (a : ℕ → Bool) (ws : List ℤ) (cs : List ℕ) where
 
     module _ (h : i < length ws) (g : i < length cs) where
       more : sumTo (i + 1) ≡ sumTo i +ℤ counted a (getD ws i (pos 0)) (getD cs i 0)
-      more = rw (terms-to ws cs i h g) (sum-snoc a (termsOn (take i ws) (take i cs)) (record { weight = getD ws i (pos 0); code = getD cs i 0 }))
+      more = rw (terms-to ws cs i h g) (sum-snoc a (termsOn (take i ws) (take i cs)) (record {
+        weight = getD ws i (pos 0);
+        code = getD cs i 0;
+      }))
 
       pub sum-true : isTrue a (getD cs i 0) ≡ true → sumTo i +ℤ getD ws i (pos 0) ≡ sumTo (i + 1)
       sum-true t = sym (more ∙ rw t)

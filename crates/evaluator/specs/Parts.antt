@@ -8,7 +8,8 @@ use Rattle.definitions.specs.Limits.{inI64}
 use Rattle.definitions.specs.Refusal.{Checked, refuse, accept}
 use Rattle.definitions.specs.Literal.{indexOf}
 use Rattle.definitions.specs.Row.{Term, rowOf}
-use Rattle.definitions.specs.Table.{Table, table, Outcome, Entry, indexed, lineIn, andThen}
+use Rattle.definitions.specs.Table.{Table, table, Outcome, indexed, lineIn, andThen}
+use Rattle.definitions.specs.declared.Entry.{Entry}
 use Rattle.definitions.specs.Meaning.{assigned, onesOf, isKnown}
 use Rattle.definitions.specs.Evaluate.{Evaluated, goal, found, foundIn, within, knownOnes, evaluatingBy}
 use Rattle.columns.specs.Parts.{every}
@@ -41,11 +42,13 @@ valued value ones = cond (inI64 value) (accept (goal value ones)) (refuse 8)
 
 -- a row of a read kind with these terms, which lie in their columns
 abbrev pub foundOf : ℕ → ℤ → List Term → Bool → List ℕ → List ℕ → ℕ → Checked Evaluated
-foundOf kind bound ts all ws ks ones = cond (indexed ts) (found (hasBy all ws ks) (assigned ws) ones (rowOf (readKind kind) bound ts)) (refuse 11)
+foundOf kind bound ts all ws ks ones =
+    cond (indexed ts) (found (hasBy all ws ks) (assigned ws) ones (rowOf (readKind kind) bound ts)) (refuse 11)
 
 -- an entry of a table with these two columns of terms
 abbrev pub foundAt : Entry → List ℤ → List ℕ → Bool → List ℕ → List ℕ → ℕ → Checked Evaluated
-foundAt e weights literals all ws ks ones = andThen (lineIn (table [] [] [] [] weights literals) e) (foundIn (hasBy all ws ks) (assigned ws) ones)
+foundAt e weights literals all ws ks ones =
+    andThen (lineIn (table [] [] [] [] weights literals) e) (foundIn (hasBy all ws ks) (assigned ws) ones)
 
 -- a row of a table
 abbrev pub evaluatingOf : Table → ℕ → Bool → List ℕ → List ℕ → ℕ → Outcome Evaluated

@@ -2,7 +2,13 @@
 // says which variables are (02, A1). Each step has a function of its own, from the row's entry down to a single literal. The inner ones are lent both rows; with
 // `all` everything that the words hold is known, and the known words are not looked at. They are told the number of ones, which is counted before them or, where
 // a row is judged, not at all. Assumes nothing.
-use symbols::Lit;
+use definitions::AT_LEAST;
+use definitions::AT_MOST;
+use definitions::EQUAL;
+use definitions::OBJECTIVE;
+use definitions::WEIGHT_LIMIT;
+use definitions::WORD_LIMIT;
+use literals::Lit;
 ghost use mathlib.Core.Path.{_≡_};
 ghost use mathlib.Core.Bool.{true};
 ghost use Prim.Native.Nat.{_*_, _≤_, _<_};
@@ -25,21 +31,6 @@ pub enum Evaluated {
     Constraint { sum: i64, holds: bool, ones: u64 },
     Objective { value: i64, ones: u64 },
 }
-
-// The numbers of the read rows in the column of kinds; a comment's is 0.
-const AT_LEAST: u8 = 1;
-
-const AT_MOST: u8 = 2;
-
-const EQUAL: u8 = 3;
-
-const OBJECTIVE: u8 = 4;
-
-// "sum of absolute weights in a row ... (M)"
-const WEIGHT_LIMIT: u64 = 9_223_372_036_854_775_807;
-
-// "Words after the first 16,777,216 are not looked at."
-const WORD_LIMIT: usize = 16_777_216;
 
 // A word of ones.
 const ALL: u64 = 18_446_744_073_709_551_615;

@@ -12,22 +12,25 @@ use Rattle.definitions.specs.Refusal.{refusal, Checked, refuse, accept, needed}
 use Rattle.definitions.specs.Row.{Term, Line, comment, row, termsOf}
 use Rattle.definitions.specs.Table.{Table, rowRoom, Outcome, refused, accepted, allTerms, entries, onRow, rowByRow}
 use Rattle.definitions.specs.Write.{fittedText, outputAfter}
-use Rattle.definitions.specs.House.{termFields, houseLine, headLine, listing, listedEntry, listingTable}
+use Rattle.definitions.specs.House.{termFields, houseLine, listedEntry, listingTable}
 use Rattle.definitions.proofs.Puts.{Puts, rest-room, puts-then, puts-as, needed-add}
 use Rattle.columns.proofs.Terms.{entries-count}
-use Rattle.house.specs.declared.Listed.the-variants.{Refused, Listed}
-use Rattle.house.specs.Words.{linesOf, headText}
-use Rattle.house.specs.Sizes.{Sizes, sizesOf, sizesIn}
+use Rattle.definitions.specs.declared.Refusal.{Refusal}
+use Rattle.definitions.specs.declared.Length.the-variants.{Refused, Is}
+use Rattle.definitions.proofs.Truths.{never}
+use Rattle.house_lengths.specs.Words.{headText}
+use Rattle.house_lengths.proofs.Fields.{term-fields-length}
+use Rattle.house_lengths.proofs.Words.{line-length, text, is-listing, text-length}
+use Rattle.house_measures.specs.Lines.{linesOf}
+use Rattle.house_measures.specs.Sizes.{Sizes, sizesOf, sizesIn}
 use Rattle.house.specs.Ready.{RowsReady}
 use Rattle.house.specs.Lists.{Lists}
-use Rattle.house.proofs.Fields.{term-fields-length}
-use Rattle.house.proofs.Words.{line-length}
 
 -- ---- what the sizes were counted of
 
-pub refused-sizes : (first k i : ℕ) (x : Outcome (List Line)) → refused (refusal k i) ≡ sizesIn first x → x ≡ refused (refusal k i)
-refused-sizes first k i (refused r) e = cc
-refused-sizes first k i (accepted ls) e = let z : _≡_ {A = ℕ} 0 1 = cc in absurd (omega arith)
+pub refused-sizes : (first : ℕ) (q : Refusal) (x : Outcome (List Line)) → refused q ≡ sizesIn first x → x ≡ refused q
+refused-sizes first q (refused r) e = cc
+refused-sizes first q (accepted ls) e = never (cc)
 
 pub record Counted (first : ℕ) (x : Outcome (List Line)) (s : Sizes) : Type 0 where
   pub lines : List Line
@@ -35,7 +38,7 @@ pub record Counted (first : ℕ) (x : Outcome (List Line)) (s : Sizes) : Type 0 
   pub sizes : s ≡ sizesOf first lines
 
 pub accepted-sizes : (first : ℕ) (x : Outcome (List Line)) (s : Sizes) → accepted s ≡ sizesIn first x → Counted first x s
-accepted-sizes first (refused r) s e = let z : _≡_ {A = ℕ} 0 1 = cc in absurd (omega arith)
+accepted-sizes first (refused r) s e = never (cc)
 accepted-sizes first (accepted ls) s e = record { lines = ls; are = refl; sizes = cc }
 
 -- ---- the rows that there are
@@ -45,9 +48,10 @@ unfolding rowByRow
 accepted-count f i [] bs e = let q : bs ≡ [] = cc in ap length q
 accepted-count {A} {B} f i (a ∷ l) bs e = by (f a) (rowByRow f (i + 1) l) e (λ cs q. accepted-count f (i + 1) l cs q)
   where
-    by : (c : Checked B) (o : Outcome (List B)) → onRow i c o ≡ accepted bs → ((cs : List B) → o ≡ accepted cs → length cs ≡ length l) → length bs ≡ suc (length l)
-    by (refuse n) o e ih = let z : _≡_ {A = ℕ} 0 1 = cc in absurd (omega arith)
-    by (accept b) (refused r) e ih = let z : _≡_ {A = ℕ} 0 1 = cc in absurd (omega arith)
+    by : (c : Checked B) (o : Outcome (List B)) → onRow i c o ≡ accepted bs
+        → ((cs : List B) → o ≡ accepted cs → length cs ≡ length l) → length bs ≡ suc (length l)
+    by (refuse n) o e ih = never (cc)
+    by (accept b) (refused r) e ih = never (cc)
     by (accept b) (accepted cs) e ih = let q : bs ≡ b ∷ cs = cc in ap length q ∙ ap suc (ih cs refl)
 
 take-taken : {A : Type 0} (n : ℕ) (l : List A) → take (length (take n l)) l ≡ take n l
@@ -72,7 +76,13 @@ terms-most : (first : ℕ) (ts : List Term) → length ts ≤ length (joined (te
 unfolding joined
 terms-most first [] = omega arith
 terms-most first (t ∷ ts) =
-    omega (arith, terms-most first ts, length-append (termFields first t) (joined (termFields first) ts), term-fields-length first (t .weight) (t .code))
+    omega (
+      arith,
+      terms-most first ts,
+      length-append (termFields first t) (joined (termFields first) ts),
+      term-fields-length
+          first (t .weight) (t .code),
+    )
 
 line-most : (first : ℕ) (l : Line) → length (termsOf l) ≤ length (houseLine first l)
 line-most first (comment f n b) = omega arith
@@ -82,23 +92,21 @@ lines-most : (first : ℕ) (ls : List Line) → length (allTerms ls) ≤ length 
 unfolding joined
 lines-most first [] = omega arith
 lines-most first (l ∷ ls) =
-    omega (arith, lines-most first ls, line-most first l, length-append (termsOf l) (allTerms ls), length-append (houseLine first l) (joined (houseLine first) ls))
+    omega (
+      arith,
+      lines-most first ls,
+      line-most first l,
+      length-append (termsOf l) (allTerms ls),
+      length-append
+          (houseLine first l) (joined (houseLine first) ls),
+    )
 
 -- ---- the length that is needed
 
 module _ (first : ℕ) (ls : List Line) where
-  abbrev pub text : List ℕ
-  text = headText (length ls) (length (allTerms ls)) first ++ joined (houseLine first) ls
-
-  pub is-listing : listing first (accepted ls) ≡ text
-  unfolding listing headLine
-  is-listing = refl
-
-  pub text-length : length text ≡ length (headText (length ls) (length (allTerms ls)) first) + length (joined (houseLine first) ls)
-  text-length = length-append (headText (length ls) (length (allTerms ls)) first) (joined (houseLine first) ls)
-
   -- the count of terms is cut only where the length is, too
-  pub whole-needed : needed (needed (length (joined (houseLine first) ls)) + length (headText (length ls) (needed (length (allTerms ls))) first)) ≡ needed (length text)
+  pub whole-needed : needed (needed (length (joined (houseLine first) ls)) + length
+      (headText (length ls) (needed (length (allTerms ls))) first)) ≡ needed (length (text first ls))
   whole-needed = cases (decLe (length (allTerms ls)) neededLimit)
     where
       cut : (n : ℕ) → n ≤ neededLimit → needed n ≡ n
@@ -108,40 +116,43 @@ module _ (first : ℕ) (ls : List Line) where
       beyond b m w h g = unfold needed in omega arith
 
       cases : Dec (length (allTerms ls) ≤ neededLimit)
-          → needed (needed (length (joined (houseLine first) ls)) + length (headText (length ls) (needed (length (allTerms ls))) first)) ≡ needed (length text)
-      cases (yes h) = rw (cut (length (allTerms ls)) h, needed-add) (ap needed (omega (arith, text-length)))
-      cases (no h) = beyond (length (joined (houseLine first) ls)) _ (length text) (omega (arith, lines-most first ls)) (omega (arith, text-length))
+          → needed (needed (length (joined (houseLine first) ls)) + length
+          (headText (length ls) (needed (length (allTerms ls))) first)) ≡ needed (length (text first ls))
+      cases (yes h) = rw (cut (length (allTerms ls)) h, needed-add) (ap needed (omega (arith, text-length first ls)))
+      cases (no h) = beyond (length (joined (houseLine first) ls)) _ (length (text first ls))
+          (omega (arith, lines-most first ls)) (omega (arith, text-length first ls))
 
   -- where the length needed fits, the text does, and nothing was cut
-  module _ (w room : ℕ) (e : w ≡ needed (length text)) (h : w ≤ room) (g : room < neededLimit) where
-    pub text-fits : length text ≤ room
+  module _ (w room : ℕ) (e : w ≡ needed (length (text first ls))) (h : w ≤ room) (g : room < neededLimit) where
+    pub text-fits : length (text first ls) ≤ room
     unfolding needed
     text-fits = omega (arith, e)
 
     pub terms-whole : needed (length (allTerms ls)) ≡ length (allTerms ls)
     unfolding needed
-    terms-whole = omega (arith, lines-most first ls, text-length, text-fits)
+    terms-whole = omega (arith, lines-most first ls, text-length first ls, text-fits)
 
 -- ---- what is answered
 
 module _ (first n : ℕ) (t : Table) (o : List ℕ) where
-  pub lists-refused : (k i : ℕ) → linesOf first n t ≡ refused (refusal k i) → Lists first n t o (Refused k i) o
+  pub lists-refused : (q : Refusal) → linesOf first n t ≡ refused q → Lists first n t o (Refused q) o
   unfolding listingTable outputAfter
-  lists-refused k i e = record { answer = rw e; after = rw e }
+  lists-refused q e = record { answer = rw e; after = rw e }
 
   module _ (ls : List Line) (e : linesOf first n t ≡ accepted ls) where
     outcome : listingTable first n t (length o) ≡ fittedText (length o) (text first ls)
     unfolding listingTable
     outcome = rw (e, is-listing first ls)
 
-    pub lists-full : (w : ℕ) → w ≡ needed (length (text first ls)) → length o < w → Lists first n t o (Refused 14 w) o
+    pub lists-full : (w : ℕ) → w ≡ needed (length (text first ls)) → length o < w → Lists first n t o (Refused (refusal 14 w)) o
     unfolding outputAfter
     lists-full w q h =
         let f : length o < length (text first ls) = unfold needed in omega (arith, q) in
         let l = lt-leb (length (text first ls)) (length o) f in
         record { answer = rw (outcome, l, q); after = rw (outcome, l) }
 
-    pub lists-all : (end : ℕ) (o′ : List ℕ) → length (text first ls) ≤ length o → Puts (text first ls) 0 o end o′ → Lists first n t o (Listed end) o′
+    pub lists-all : (end : ℕ) (o′ : List ℕ) → length (text first ls) ≤ length o → Puts (text first ls) 0 o end o′
+        → Lists first n t o (Is end) o′
     unfolding outputAfter
     lists-all end o′ h p =
         let l = le-leb (length (text first ls)) (length o) h in
@@ -153,7 +164,8 @@ module _ (first n : ℕ) (t : Table) (o : List ℕ) where
 
 -- ---- what the code counts: r rows, m terms and a length of k, and w with the head
 
-module _ (first n : ℕ) (t : Table) (o : List ℕ) (r m k : ℕ) (c : Counted first (linesOf first n t) (record { rows = r; all = record { terms = m; length = k } }))
+module _ (first n : ℕ) (t : Table) (o : List ℕ) (r m k : ℕ)
+    (c : Counted first (linesOf first n t) (record { rows = r; all = record { terms = m; length = k } }))
     (w : ℕ) (e : w ≡ needed (k + length (headText r m first))) where
   rows-are : r ≡ length (c .lines)
   rows-are = ap (λ (z : Sizes). z .rows) (c .sizes)
@@ -167,10 +179,11 @@ module _ (first n : ℕ) (t : Table) (o : List ℕ) (r m k : ℕ) (c : Counted f
   is-needed : w ≡ needed (length (text first (c .lines)))
   is-needed = e ∙ go (c .lines) rows-are terms-are length-is
     where
-      go : (ls : List Line) → r ≡ length ls → m ≡ needed (length (allTerms ls)) → k ≡ needed (length (joined (houseLine first) ls)) → needed (k + length (headText r m first)) ≡ needed (length (text first ls))
+      go : (ls : List Line) → r ≡ length ls → m ≡ needed (length (allTerms ls))
+          → k ≡ needed (length (joined (houseLine first) ls)) → needed (k + length (headText r m first)) ≡ needed (length (text first ls))
       go ls a b d = rw (a, b, d) (whole-needed first ls)
 
-  pub listing-full : length o < w → Lists first n t o (Refused 14 w) o
+  pub listing-full : length o < w → Lists first n t o (Refused (refusal 14 w)) o
   listing-full h = lists-full first n t o (c .lines) (c .are) w is-needed h
 
   module _ (h : w ≤ length o) (g : length o < neededLimit) where
@@ -180,7 +193,8 @@ module _ (first n : ℕ) (t : Table) (o : List ℕ) (r m k : ℕ) (c : Counted f
     head-is : headText r m first ≡ headText (length (c .lines)) (length (allTerms (c .lines))) first
     head-is = go (c .lines) rows-are (terms-are ∙ terms-whole first (c .lines) w (length o) is-needed h g)
       where
-        go : (ls : List Line) → r ≡ length ls → m ≡ length (allTerms ls) → headText r m first ≡ headText (length ls) (length (allTerms ls)) first
+        go : (ls : List Line) → r ≡ length ls → m ≡ length (allTerms ls)
+            → headText r m first ≡ headText (length ls) (length (allTerms ls)) first
         go ls a b = rw (a, b)
 
     pub head-room : length (headText r m first) ≤ length o
@@ -205,7 +219,9 @@ module _ (first n : ℕ) (t : Table) (o : List ℕ) (r m k : ℕ) (c : Counted f
             room = rest-room p body room;
           }
 
-      pub listing-all : {end : ℕ} {o₂ : List ℕ} → ((ls : List Line) → linesOf first r t ≡ accepted ls → Puts (joined (houseLine first) ls) at o₁ end o₂) → Lists first n t o (Listed end) o₂
+      pub listing-all : {end : ℕ} {o₂ : List ℕ}
+          → ((ls : List Line) → linesOf first r t ≡ accepted ls → Puts (joined (houseLine first) ls) at o₁ end o₂) → Lists first
+          n t o (Is end) o₂
       listing-all {end} {o₂} f =
           let q = puts-then p (omega (arith, head-room)) (f (c .lines) lines-are) in
           lists-all first n t o (c .lines) (c .are) end o₂ fits (puts-as q (ap (λ (x : List ℕ). x ++ body) head-is))

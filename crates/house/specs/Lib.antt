@@ -1,5 +1,2 @@
-pub mod Said
 pub mod Lists
-pub mod Words
-pub mod Sizes
 pub mod Ready

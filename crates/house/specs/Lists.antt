@@ -6,9 +6,9 @@ use lib.ListN.{length}
 use Rattle.definitions.specs.Table.{Table}
 use Rattle.definitions.specs.Write.{lengthOf, outputAfter}
 use Rattle.definitions.specs.House.{listingTable}
-use Rattle.house.specs.declared.Listed as code
-use Rattle.house.specs.Said.{saidListed}
+use Rattle.definitions.specs.Answers.{saidLength}
+use Rattle.definitions.specs.declared.Length.{Length}
 
-pub record Lists (first rows : ℕ) (t : Table) (o : List ℕ) (r : code.Listed) (o′ : List ℕ) : Type 0 where
-  pub answer : saidListed r ≡ lengthOf (listingTable first rows t (length o))
+pub record Lists (first rows : ℕ) (t : Table) (o : List ℕ) (r : Length) (o′ : List ℕ) : Type 0 where
+  pub answer : saidLength r ≡ lengthOf (listingTable first rows t (length o))
   pub after : o′ ≡ outputAfter (listingTable first rows t (length o)) o

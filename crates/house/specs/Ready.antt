@@ -9,11 +9,12 @@ use Rattle.definitions.specs.Lists.{joined}
 use Rattle.definitions.specs.Refusal.{accept}
 use Rattle.definitions.specs.Literal.{indexOf, fileNumber}
 use Rattle.definitions.specs.Row.{term, Line, row, rowOf}
-use Rattle.definitions.specs.Table.{Table, rowRoom, accepted, Entry, termsOn}
+use Rattle.definitions.specs.Table.{Table, rowRoom, accepted, termsOn}
+use Rattle.definitions.specs.declared.Entry.{Entry}
 use Rattle.definitions.specs.Write.{isAccepted, numbered}
 use Rattle.definitions.specs.House.{termFields, houseLine}
 use Rattle.columns.specs.Kinds.{readKind}
-use Rattle.house.specs.Words.{lineOn, linesOf}
+use Rattle.house_measures.specs.Lines.{lineOn, linesOf}
 
 -- a term whose variable has a file number
 pub record TermReady (first : ℕ) (w : ℤ) (c at : ℕ) (o : List ℕ) : Type 0 where

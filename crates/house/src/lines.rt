@@ -1,22 +1,23 @@
-// The second walk: the head, the lines of rows that the first walk has accepted, and the line of a refusal, into an output that has room for all of it.
+// The second walk: the head and the lines of rows that the first walk has accepted, into an output that has room for all of it.
 // Assumes nothing.
-use crate::measure::COMMENT;
-use crate::output::put_field;
-use crate::output::put_number;
-use crate::output::put_text;
 use crate::terms::put_terms;
+use definitions::COMMENT;
+use puts::put_field;
+use puts::put_number;
+use puts::put_text;
 ghost use mathlib.Core.Path.{_≡_};
 ghost use mathlib.Core.List.{List};
 ghost use Prim.Native.Nat.{_+_, _≤_};
 ghost use lib.ListN.{length};
 ghost use Rattle.definitions.specs.Lists.{joined};
-ghost use Rattle.definitions.specs.Refusal.{refusal, accept};
+ghost use Rattle.definitions.specs.Refusal.{accept};
 ghost use Rattle.definitions.specs.Row.{Line, row, rowOf};
 ghost use Rattle.definitions.specs.Table.{table, accepted, termsOn};
-ghost use Rattle.definitions.specs.House.{houseLine, refusedLine};
+ghost use Rattle.definitions.specs.House.{houseLine};
 ghost use Rattle.definitions.proofs.Puts.{Puts};
 ghost use Rattle.columns.specs.Kinds.{readKind};
-ghost use Rattle.house.specs.Words.{headText, commentLine, wordField, lineOn, linesOf};
+ghost use Rattle.house_lengths.specs.Words.{headText, commentLine, wordField};
+ghost use Rattle.house_measures.specs.Lines.{lineOn, linesOf};
 ghost use Rattle.house.specs.Ready.{LineReady, RowReady, RowsReady};
 
 // "The first line is rows, terms, first index."
@@ -28,17 +29,6 @@ pub(crate) fn put_head(rows: usize, terms: u64, first: u32, out: &mut [u8]) -> u
     let b = put_field(rows as u64, out, a);
     let c = put_field(terms, out, b);
     let end = put_field(first as u64, out, c);
-    out[end] = b'\n';
-    end + 1
-}
-
-pub(crate) fn put_refusal(number: u8, place: u64, out: &mut [u8]) -> usize
-    requires { ⌜ length (refusedLine (refusal number place)) ≤ length (now out) ⌝ }
-    ensures { λ r. ⌜ Puts (refusedLine (refusal number place)) 0 (now (out .entry)) r (now (out .exit)) ⌝ }
-{
-    let a = put_text(b"refused", out, 0);
-    let b = put_field(number as u64, out, a);
-    let end = put_field(place, out, b);
     out[end] = b'\n';
     end + 1
 }

@@ -1,6 +1,2 @@
-pub mod Numbered
-pub mod SumLengths
-pub mod LineLengths
-pub mod FileLengths
 pub mod Files
 pub mod OneAnswer

@@ -11,7 +11,8 @@ use Rattle.definitions.specs.Limits.{weightLimit, inI64}
 use Rattle.definitions.specs.Refusal.{refusal, needed, Checked, refuse, accept}
 use Rattle.definitions.specs.Lists.{joined}
 use Rattle.definitions.specs.Row.{Line, termsOf}
-use Rattle.definitions.specs.Table.{Table, table, rowRoom, refused, accepted, totalsOf, Entry, entries, allTerms, andThen}
+use Rattle.definitions.specs.Table.{Table, table, rowRoom, refused, accepted, totalsOf, entries, allTerms, andThen}
+use Rattle.definitions.specs.declared.Entry.{Entry}
 use Rattle.definitions.specs.Normal.{normalLine, normalIn}
 use Rattle.columns.specs.Parts.{codesIndexed, weightSizes}
 use Rattle.columns.proofs.Terms.{entryAt, entries-from, entries-end}
@@ -49,7 +50,8 @@ unfolding normalIn
 normal-of t e = ap (λ (c : Checked Line). andThen c normalLine) (line-by-terms t e)
 
 -- so what is said of a row over those two is said of it in the table
-pub checked-in : (t : Table) (e : Entry) (x : Checked ℕ) → x ≡ termCount (normalOf e (t .weights) (t .literals)) → x ≡ termCount (normalIn t e)
+pub checked-in : (t : Table) (e : Entry) (x : Checked ℕ) → x ≡ termCount (normalOf e (t .weights) (t .literals))
+    → x ≡ termCount (normalIn t e)
 checked-in t e x p = p ∙ ap termCount (sym (normal-of t e))
 
 -- ---- which case a count is of
@@ -95,7 +97,8 @@ module _ (t : Table) where
       pub counts-refused : (n : ℕ) → refuse n ≡ termCount (normalIn t (entryAt t i)) → refused (refusal n i) ≡ totalsNeeded (normalRows t)
       counts-refused n e =
           sym (ap totalsNeeded
-          (passed-refused (normalIn t) (entries t) i (w .pre) (w .passed) (entryAt t i) (entries-from t i h) n (refused-row (normalIn t (entryAt t i)) n e)))
+          (passed-refused (normalIn t) (entries t) i (w .pre) (w .passed) (entryAt t i) (entries-from t i h) n
+          (refused-row (normalIn t (entryAt t i)) n e)))
 
       pub counts-more : (n : ℕ) → accept n ≡ termCount (normalIn t (entryAt t i)) → Counts (i + 1) (needed (terms + n))
       counts-more n e =
@@ -103,7 +106,8 @@ module _ (t : Table) where
           record {
             pre = w .pre ++ (a .line ∷ []);
             passed = passed-more (normalIn t) (entries t) i (w .pre) (w .passed) (entryAt t i) (entries-from t i h) (a .line) (a .accepts);
-            terms-are = total (length (allTerms (w .pre))) (length (termsOf (a .line))) _ (w .terms-are) (a .count) (terms-snoc (w .pre) (a .line));
+            terms-are =
+                total (length (allTerms (w .pre))) (length (termsOf (a .line))) _ (w .terms-are) (a .count) (terms-snoc (w .pre) (a .line));
           }
         where
           total : (x y z : ℕ) → terms ≡ needed x → n ≡ y → z ≡ x + y → needed (terms + n) ≡ needed z

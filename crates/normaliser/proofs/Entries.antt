@@ -1,4 +1,5 @@
--- What is said of one entry of a table: which numbers in the column of kinds are read, what is checked of its terms, and what its normal row holds.
+-- What is said of one entry of a table: which numbers in the column of kinds are read, what is checked of its terms, and what its
+-- normal row holds.
 use mathlib.Core.Path.{_≡_, refl, sym, ap, _∙_}
 use mathlib.Core.Logic.{_⊎_}
 use mathlib.Core.Bool.{Bool, true, false, cond, _&&_}
@@ -13,7 +14,8 @@ use lib.ListN.{length, length-map}
 use Rattle.definitions.specs.Limits.{weightLimit, inI64}
 use Rattle.definitions.specs.Refusal.{Checked, refuse, accept}
 use Rattle.definitions.specs.Row.{Row, rowOf, Line, comment, row}
-use Rattle.definitions.specs.Table.{Table, table, Entry, termsAt, inColumn, sortOf, kindIn, countIn, andThen, rowIn, lineIn}
+use Rattle.definitions.specs.Table.{Table, table, termsAt, inColumn, sortOf, kindIn, countIn, andThen, rowIn, lineIn}
+use Rattle.definitions.specs.declared.Entry.{Entry}
 use Rattle.definitions.specs.Normal.{moved, totalBy, normalTerm, rise, normal, normalLine, normalIn}
 use Rattle.columns.specs.Parts.{codesIndexed, weightSizes}
 use Rattle.columns.proofs.Terms.{weightsAt, literalsAt, terms-at, weights-at-count, literals-at-count, terms-at-count, indexed-at, sizes-at}
@@ -71,12 +73,21 @@ module _ (ws : List ℤ) (cs : List ℕ) (e : Entry) where
       -- the bound of the normal row
       pub normal-bound : normal raw .bound ≡ e .bound +ℤ shiftBy (readKind (e .kind)) (weightRises (weightsAt on e))
       unfolding normal
-      normal-bound = ap (moved (readKind (e .kind)) (e .bound)) rises ∙ moved-is (readKind (e .kind)) (e .bound) (weightRises (weightsAt on e))
+      normal-bound =
+          ap (moved (readKind (e .kind)) (e .bound)) rises ∙ moved-is (readKind (e .kind)) (e .bound) (weightRises (weightsAt on e))
 
-      of-inside : normalOf e ws cs ≡ cond (codesIndexed (literalsAt on e)) (cond (leb (weightSizes (weightsAt on e)) weightLimit && inI64 (e .bound +ℤ shiftBy (readKind (e .kind)) (weightRises (weightsAt on e)))) (accept (row (normal raw))) (refuse 8)) (refuse 11)
+      of-inside : normalOf e ws cs
+          ≡ cond (codesIndexed (literalsAt on e))
+          (cond (leb (weightSizes (weightsAt on e)) weightLimit
+          && inI64 (e .bound +ℤ shiftBy (readKind (e .kind)) (weightRises (weightsAt on e)))) (accept (row (normal raw))) (refuse 8))
+          (refuse 11)
       of-inside = of-read ∙ rw (i, indexed-at on e i) (by (codesIndexed (literalsAt on e)))
         where
-          by : (b : Bool) → andThen (cond b (accept (row raw)) (refuse 11)) normalLine ≡ cond b (cond (leb (weightSizes (weightsAt on e)) weightLimit && inI64 (e .bound +ℤ shiftBy (readKind (e .kind)) (weightRises (weightsAt on e)))) (accept (row (normal raw))) (refuse 8)) (refuse 11)
+          by : (b : Bool)
+              → andThen (cond b (accept (row raw)) (refuse 11)) normalLine
+              ≡ cond b (cond (leb (weightSizes (weightsAt on e)) weightLimit
+              && inI64 (e .bound +ℤ shiftBy (readKind (e .kind)) (weightRises (weightsAt on e)))) (accept (row (normal raw)))
+              (refuse 8)) (refuse 11)
           by true = rw (sizes-at on e i, normal-bound)
           by false = refl
 
@@ -85,12 +96,16 @@ module _ (ws : List ℤ) (cs : List ℕ) (e : Entry) where
       unfolding termsChecked normal
       check-inside =
           ap termCount of-inside
-          ∙ by (codesIndexed (literalsAt on e)) (leb (weightSizes (weightsAt on e)) weightLimit && inI64 (e .bound +ℤ shiftBy (readKind (e .kind)) (weightRises (weightsAt on e))))
+          ∙ by (codesIndexed (literalsAt on e))
+          (leb (weightSizes (weightsAt on e)) weightLimit
+          && inI64 (e .bound +ℤ shiftBy (readKind (e .kind)) (weightRises (weightsAt on e))))
         where
           count : length (map normalTerm (termsAt on e)) ≡ length (weightsAt on e)
           count = length-map (termsAt on e) normalTerm ∙ terms-at-count on e i ∙ sym (weights-at-count on e i)
 
-          by : (b d : Bool) → termCount (cond b (cond d (accept (row (normal raw))) (refuse 8)) (refuse 11)) ≡ cond b (cond d (accept (length (weightsAt on e))) (refuse 8)) (refuse 11)
+          by : (b d : Bool)
+              → termCount (cond b (cond d (accept (row (normal raw))) (refuse 8)) (refuse 11))
+              ≡ cond b (cond d (accept (length (weightsAt on e))) (refuse 8)) (refuse 11)
           by true true = ap accept count
           by true false = refl
           by false d = refl
@@ -131,7 +146,8 @@ module _ (ws : List ℤ) (cs : List ℕ) (e : Entry) (y : Line) (a : normalOf e 
       inside g false f = absurd (not-refused (of-outside ws cs e h g f) a)
       inside g true i =
           let p = passed (codesIndexed (literalsAt (on ws cs e) e)) _ 11 y (sym (of-inside ws cs e h g i) ∙ a) in
-          let q = passed (leb (weightSizes (weightsAt (on ws cs e) e)) weightLimit && inI64 (e .bound +ℤ shiftBy (readKind (e .kind)) (weightRises (weightsAt (on ws cs e) e)))) _ 8 y (p .1) in
+          let q = passed (leb (weightSizes (weightsAt (on ws cs e) e)) weightLimit
+          && inI64 (e .bound +ℤ shiftBy (readKind (e .kind)) (weightRises (weightsAt (on ws cs e) e)))) _ 8 y (p .1) in
           let t = both (leb (weightSizes (weightsAt (on ws cs e) e)) weightLimit) _ (q .0) in
           record {
             known = g;
@@ -152,7 +168,9 @@ module _ (ws : List ℤ) (cs : List ℕ) (e : Entry) (y : Line) (a : normalOf e 
     where
       cases : Dec (e .kind ≤ 0) → kindIn y ≡ e .kind
       cases (yes g) = let k : e .kind ≡ 0 = omega arith in ap kindIn (accepted-comment k) ∙ sym k
-      cases (no g) = let h : e .kind ≡ 0 → ⊥ = λ z. omega arith in let r = accepted-row h in ap kindIn (r .is) ∙ read-kind (e .kind) h (r .known) .number
+      cases (no g) =
+          let h : e .kind ≡ 0 → ⊥ = λ z. omega arith in
+          let r = accepted-row h in ap kindIn (r .is) ∙ read-kind (e .kind) h (r .known) .number
 
   pub count-kept : countIn y ≡ e .count
   unfolding normal
@@ -160,4 +178,6 @@ module _ (ws : List ℤ) (cs : List ℕ) (e : Entry) (y : Line) (a : normalOf e 
     where
       cases : Dec (e .kind ≤ 0) → countIn y ≡ e .count
       cases (yes g) = ap countIn (accepted-comment (omega arith))
-      cases (no g) = let r = accepted-row (λ z. omega arith) in ap countIn (r .is) ∙ length-map (termsAt (on ws cs e) e) normalTerm ∙ terms-at-count (on ws cs e) e (r .inside)
+      cases (no g) =
+          let r = accepted-row (λ z. omega arith) in
+          ap countIn (r .is) ∙ length-map (termsAt (on ws cs e) e) normalTerm ∙ terms-at-count (on ws cs e) e (r .inside)

@@ -10,15 +10,18 @@ use lib.ListN.{length, take, drop, set, length-append, length-map, length-drop}
 use Rattle.definitions.specs.Lists.{joined}
 use Rattle.definitions.specs.Refusal.{accept}
 use Rattle.definitions.specs.Row.{weightOf, literalOf, Line, termsOf}
-use Rattle.definitions.specs.Table.{Table, table, rowRoom, termRoom, Outcome, accepted, Entry, entries, termsOn, termsAt, allTerms, filled}
+use Rattle.definitions.specs.Table.{Table, table, rowRoom, termRoom, Outcome, accepted, entries, termsOn, termsAt, allTerms, filled}
+use Rattle.definitions.specs.declared.Entry.{Entry}
 use Rattle.definitions.specs.Normal.{normalTerm, normal, normalIn}
-use Rattle.columns.proofs.Terms.{entryAt, entries-from, entries-end, weightsAt, literalsAt, terms-at, weights-at-count, literals-at-count, terms-at-count}
+use Rattle.columns.proofs.Terms.{entryAt, entries-from, entries-end, weightsAt, literalsAt, terms-at, weights-at-count}
+use Rattle.columns.proofs.Terms.{literals-at-count, terms-at-count}
 use Rattle.columns.specs.Kinds.{readKind}
 use Rattle.normaliser.specs.Parts.{weightRises, shiftBy, normalOf}
 use Rattle.normaliser.specs.Fill.{TermsFilled, TermsReady, RowReady, LineFilled, RowFilled, normalRows, Ready}
 use Rattle.normaliser.specs.declared.fill.Filled.{Filled}
 use Rattle.definitions.proofs.Columns.{joined-append, terms-snoc, rest-of, part-back, filled-none, Lengths, filled-lengths, filled-more}
-use Rattle.definitions.proofs.Columns.{Begins, begins-length, Passed, passed-none, passed-all, passed-more, Next, passed-next, passed-begins}
+use Rattle.definitions.proofs.Columns.{Begins, begins-length, Passed, passed-none, passed-all, passed-more, Next, passed-next}
+use Rattle.definitions.proofs.Columns.{passed-begins}
 use Rattle.normaliser.proofs.Checks.{normal-of}
 use Rattle.normaliser.proofs.Entries.{on, normal-bound, accepted-comment, ReadRow, accepted-row, kind-kept, count-kept}
 
@@ -40,18 +43,33 @@ module _ (ws : List ℤ) (cs : List ℕ) (e : Entry) (w₀ : List ℤ) (l₀ : L
         let t = on ws cs e in
         let n : length (weightsAt t e) ≡ e .count = weights-at-count t e i in
         let m : length (literalsAt t e) ≡ e .count = literals-at-count t e i in
-        let k : length (termsOf (r .given)) ≡ e .count = ap (λ (y : Line). length (termsOf y)) (given .is) ∙ length-map (termsAt t e) normalTerm ∙ terms-at-count t e i in
-        record { even = n ∙ sym m; small = given .small; weights = omega (arith, r .fits .weights); literals = omega (arith, r .fits .literals) }
+        let k : length (termsOf (r .given)) ≡ e .count =
+        ap (λ (y : Line). length (termsOf y)) (given .is) ∙ length-map (termsAt t e) normalTerm ∙ terms-at-count t e i in
+        record {
+          even = n ∙ sym m;
+          small = given .small;
+          weights = omega (arith, r .fits .weights);
+          literals = omega (arith, r .fits .literals);
+        }
 
   -- what is left
   module _ (m : ℕ) where
     pub filled-comment : e .kind ≡ 0 → RowFilled (normalOf e ws cs) m w₀ l₀ (record { first = e .first; bound = e .bound; terms = 0 }) w₀ l₀
     filled-comment k y a =
-        rw (accepted-comment ws cs e y a k) (record { first = refl; bound = refl; terms = refl; filled = record { weights = refl; literals = refl } })
+        rw (accepted-comment ws cs e y a k) (record {
+          first = refl;
+          bound = refl;
+          terms = refl;
+          filled = record { weights = refl; literals = refl };
+        })
 
     pub filled-row : (e .kind ≡ 0 → ⊥) → (w : List ℤ) (l : List ℕ)
         → TermsFilled (map normalTerm (termsOn (weightsAt (on ws cs e) e) (literalsAt (on ws cs e) e))) w₀ l₀ w l
-        → RowFilled (normalOf e ws cs) m w₀ l₀ (record { first = m; bound = e .bound +ℤ shiftBy (readKind (e .kind)) (weightRises (weightsAt (on ws cs e) e)); terms = e .count }) w l
+        → RowFilled (normalOf e ws cs) m w₀ l₀ (record {
+          first = m;
+          bound = e .bound +ℤ shiftBy (readKind (e .kind)) (weightRises (weightsAt (on ws cs e) e));
+          terms = e .count;
+        }) w l
     unfolding normal
     filled-row h w l f y a =
         let g = accepted-row ws cs e y a h in
@@ -68,7 +86,11 @@ module _ (ws : List ℤ) (cs : List ℕ) (e : Entry) (w₀ : List ℤ) (l₀ : L
 
 begins-terms : (pre ls : List Line) → Begins pre ls → length (allTerms pre) ≤ length (allTerms ls)
 begins-terms pre ls p =
-    omega (arith, ap (λ (x : List Line). length (allTerms x)) (p .is) ∙ ap length (joined-append termsOf pre (p .rest)) ∙ length-append (allTerms pre) (allTerms (p .rest)))
+    omega (
+      arith,
+      ap (λ (x : List Line). length (allTerms x)) (p .is) ∙ ap length (joined-append termsOf pre (p .rest))
+          ∙ length-append (allTerms pre) (allTerms (p .rest)),
+    )
 
 module _ (t o : Table) where
   -- i rows of t filled, with so many terms, into a table that was o
@@ -87,10 +109,13 @@ module _ (t o : Table) where
     filling-lengths =
         let p = passed-begins (normalIn t) (entries t) i (f .pre) (f .passed) (ready .given) (ready .accepts) in
         rw (f .now-is)
-        (filled-lengths (f .pre) o (omega (arith, begins-length (f .pre) (ready .given) p, ready .rows)) (omega (arith, begins-terms (f .pre) (ready .given) p, ready .terms)))
+        (filled-lengths (f .pre) o (omega (arith, begins-length (f .pre) (ready .given) p, ready .rows))
+        (omega (arith, begins-terms (f .pre) (ready .given) p, ready .terms)))
 
     pub filling-all : rowRoom t ≤ i → (ls : List Line) → normalRows t ≡ accepted ls → x ≡ filled ls o
-    filling-all h ls e = f .now-is ∙ ap (λ (ys : List Line). filled ys o) (same (passed-all (normalIn t) (entries t) i (f .pre) (f .passed) (entries-end t i h)) e)
+    filling-all h ls e =
+        f .now-is ∙ ap (λ (ys : List Line). filled ys o)
+        (same (passed-all (normalIn t) (entries t) i (f .pre) (f .passed) (entries-end t i h)) e)
       where
         same : {q : Outcome (List Line)} {ys zs : List Line} → q ≡ accepted ys → q ≡ accepted zs → ys ≡ zs
         same a b = cc
@@ -118,10 +143,12 @@ module _ (t o : Table) where
           let p = passed-begins (normalIn t) (entries t) (i + 1) (f .pre ++ (line ∷ [])) more (ready .given) (ready .accepts) in
           record {
             rows = omega (arith, begins-length (f .pre ++ (line ∷ [])) (ready .given) p, more .count, ready .rows);
-            terms = omega (arith, begins-terms (f .pre ++ (line ∷ [])) (ready .given) p, terms-snoc (f .pre) line, f .terms-are, ready .terms);
+            terms =
+                omega (arith, begins-terms (f .pre ++ (line ∷ [])) (ready .given) p, terms-snoc (f .pre) line, f .terms-are, ready .terms);
           }
 
-      pub filling-ready : RowReady (normalOf (entryAt t i) (t .weights) (t .literals)) (take (length (x .weights) - term) (drop term (x .weights))) (take (length (x .literals) - term) (drop term (x .literals)))
+      pub filling-ready : RowReady (normalOf (entryAt t i) (t .weights) (t .literals))
+          (take (length (x .weights) - term) (drop term (x .weights))) (take (length (x .literals) - term) (drop term (x .literals)))
       filling-ready =
           record {
             given = line;
@@ -134,10 +161,20 @@ module _ (t o : Table) where
           }
 
       pub filling-more : (r : Filled) (w : List ℤ) (l : List ℕ)
-          → LineFilled line term (take (length (x .weights) - term) (drop term (x .weights))) (take (length (x .literals) - term) (drop term (x .literals))) r w l
-          → Filling (i + 1) (term + r .terms) (table (set (x .kinds) i (entryAt t i .kind)) (set (x .firsts) i (r .first)) (set (x .counts) i (entryAt t i .count)) (set (x .bounds) i (r .bound)) (putMid term (length (x .weights) - term) (x .weights) w) (putMid term (length (x .literals) - term) (x .literals) l))
+          → LineFilled line term (take (length (x .weights) - term) (drop term (x .weights)))
+          (take (length (x .literals) - term) (drop term (x .literals))) r w l
+          → Filling (i + 1) (term + r .terms)
+          (table (set (x .kinds) i (entryAt t i .kind)) (set (x .firsts) i (r .first)) (set (x .counts) i (entryAt t i .count))
+          (set (x .bounds) i (r .bound)) (putMid term (length (x .weights) - term) (x .weights) w)
+          (putMid term (length (x .literals) - term) (x .literals) l))
       filling-more r w l d =
-          rw (d .first, d .bound, d .terms, ← kind-kept (t .weights) (t .literals) (entryAt t i) line line-accepted, ← count-kept (t .weights) (t .literals) (entryAt t i) line line-accepted)
+          rw (
+            d .first,
+            d .bound,
+            d .terms,
+            ← kind-kept (t .weights) (t .literals) (entryAt t i) line line-accepted,
+            ← count-kept (t .weights) (t .literals) (entryAt t i) line line-accepted,
+          )
           (record {
             pre = f .pre ++ (line ∷ []);
             passed = more;

@@ -1,6 +1,6 @@
--- What an accepted answer means. The rows of the table lent are lines; the first rows of the table left are those lines made normal, one for one. For every
--- assignment each constraint holds exactly where it held and each objective has the value that it had; no weight is below 0; and normalising what is left
--- would change nothing more.
+-- What an accepted answer means. The rows of the table lent are lines; the first rows of the table left are those lines made
+-- normal, one for one. For every assignment each constraint holds exactly where it held and each objective has the value that it
+-- had; no weight is below 0; and normalising what is left would change nothing more.
 use Prim.Native.Nat.{ℕ}
 use mathlib.Core.Path.{_≡_, refl, sym, ap, ap₂, _∙_}
 use mathlib.Core.Bool.{Bool, true, false, cond, _&&_}
@@ -13,13 +13,17 @@ use Rattle.definitions.specs.Lists.{joined, AllOf}
 use Rattle.definitions.specs.Limits.{weightLimit, inI64}
 use Rattle.definitions.specs.Refusal.{Checked, refuse, accept}
 use Rattle.definitions.specs.Row.{Kind, atLeast, atMost, equal, objective, Line, comment, row, termsOf, sizes}
-use Rattle.definitions.specs.Table.{Table, table, Outcome, refused, accepted, allTerms, filled, Totals, totalsOf, counted, after, Entry, entries, indexed, termsAt, inColumn, Sort, remark, clause, unknown, weighted, cardinality, sortOf, lineBy, lineIn, andThen, rowByRow}
+use Rattle.definitions.specs.Table.{Table, table, Outcome, refused, accepted, allTerms, filled, totalsOf, counted, after, entries}
+use Rattle.definitions.specs.Table.{indexed, termsAt, inColumn, Sort, remark, clause, unknown, weighted, cardinality, sortOf}
+use Rattle.definitions.specs.Table.{lineBy, lineIn, andThen, rowByRow}
+use Rattle.definitions.specs.declared.Totals.{Totals}
+use Rattle.definitions.specs.declared.Entry.{Entry}
 use Rattle.definitions.specs.Meaning.{Assignment, holds, valueOf}
 use Rattle.definitions.specs.Normal.{normalTerm, normal, normalLine, normalIn, normalising}
 use Rattle.definitions.specs.Write.{weighs}
 use Rattle.definitions.proofs.Meanings.{normal-holds, normal-value}
 use Rattle.normaliser.specs.Meant.{Meaning, meaningBy, goal, meaningOf, normalised}
-use Rattle.normaliser.specs.declared.Answer.the-variants.{Normal}
+use Rattle.definitions.specs.declared.Counted.the-variants as answer
 use Rattle.definitions.proofs.Columns.{Fits, rows-both, rows-again, fitted-accepted}
 use Rattle.definitions.proofs.Tables.{Indexed, filled-back}
 use Rattle.definitions.proofs.Accepted.{rows-accepted}
@@ -75,7 +79,11 @@ line-indexed t e l q = by (sortOf (e .kind)) q
     by (cardinality k) q = refused-by q
     by (weighted k) q = on (inColumn t e) (indexed (termsAt t e)) refl q
       where
-        on : (b d : Bool) → indexed (termsAt t e) ≡ d → cond (b && d) (accept (row (record { kind = k; bound = e .bound; terms = termsAt t e }))) (refuse 11) ≡ accept l → Indexed l
+        on : (b d : Bool) → indexed (termsAt t e) ≡ d → cond (b && d) (accept (row (record {
+          kind = k;
+          bound = e .bound;
+          terms = termsAt t e;
+        }))) (refuse 11) ≡ accept l → Indexed l
         on true true p q = let z : l ≡ row (record { kind = k; bound = e .bound; terms = termsAt t e }) = cc in rw z p
         on true false p q = refused-by q
         on false d p q = refused-by q
@@ -104,7 +112,13 @@ terms-kept : (ls : List Line) → length (allTerms (map normalised ls)) ≡ leng
 unfolding joined
 terms-kept [] = refl
 terms-kept (l ∷ ls) =
-    omega (arith, length-append (termsOf (normalised l)) (allTerms (map normalised ls)), length-append (termsOf l) (allTerms ls), line-terms l, terms-kept ls)
+    omega (
+      arith,
+      length-append (termsOf (normalised l)) (allTerms (map normalised ls)),
+      length-append (termsOf l) (allTerms ls),
+      line-terms l,
+      terms-kept ls,
+    )
 
 -- ---- the table lent, the table left
 
@@ -133,12 +147,15 @@ given-twice t e y q = by (lineIn t e) q
     by (accept l) q = normal-line-twice l y q
 
 module _ (t o : Table) where
-  lines-meant : (lines : List Line) → rowByRow (lineIn t) 0 (entries t) ≡ accepted lines → Fits o (rowByRow (normalIn t) 0 (entries t)) (map normalised lines)
+  lines-meant : (lines : List Line) → rowByRow (lineIn t) 0 (entries t) ≡ accepted lines
+      → Fits o (rowByRow (normalIn t) 0 (entries t)) (map normalised lines)
       → Meant t o (filled (map normalised lines) o) (length (map normalised lines)) (length (allTerms (map normalised lines)))
   lines-meant lines e f =
-      let x = all-mapped normalised Indexed Indexed normalised-indexed lines (rows-accepted (lineIn t) Indexed (line-indexed t) 0 (entries t) lines e) in
+      let x = all-mapped normalised Indexed Indexed normalised-indexed lines
+      (rows-accepted (lineIn t) Indexed (line-indexed t) 0 (entries t) lines e) in
       let back = filled-back (map normalised lines) o (f .terms) x in
-      let twice = rows-accepted (normalIn t) (λ (l : Line). normalLine l ≡ accept l) (given-twice t) 0 (entries t) (map normalised lines) (f .accepts) in
+      let twice = rows-accepted (normalIn t) (λ (l : Line). normalLine l ≡ accept l) (given-twice t) 0 (entries t)
+      (map normalised lines) (f .accepts) in
       record {
         lines = lines;
         read = e;
@@ -152,7 +169,8 @@ module _ (t o : Table) where
       }
     where
       once : (es : List Entry) → rowByRow (lineIn (filled (map normalised lines) o)) 0 es ≡ accepted (map normalised lines)
-          → AllOf (λ (l : Line). normalLine l ≡ accept l) (map normalised lines) → rowByRow (normalIn (filled (map normalised lines) o)) 0 es ≡ accepted (map normalised lines)
+          → AllOf (λ (l : Line). normalLine l ≡ accept l) (map normalised lines)
+          → rowByRow (normalIn (filled (map normalised lines) o)) 0 es ≡ accepted (map normalised lines)
       once es p q = unfold normalIn in rows-again (lineIn (filled (map normalised lines) o)) normalLine 0 es (map normalised lines) p q
 
   accepted-meant : (ls : List Line) → normalising t o ≡ accepted ls → Meant t o (filled ls o) (length ls) (length (allTerms ls))
@@ -176,12 +194,14 @@ module _ (t o : Table) where
 
 -- ---- the code: the columns as `normalise` was lent them, and as it leaves them
 
-pub normalise-meant : (κs : _) (a : _) (n m : ℕ) (s : _) → normalise.Post κs a (Normal n m) s
+pub normalise-meant : (κs : _) (a : _) (n m : ℕ) (s : _) → normalise.Post κs a (answer.Table (totalsOf n m)) s
     → Meant
     (table (now (a .0)) (now (a .1 .0)) (now (a .1 .1 .0)) (now (a .1 .1 .1 .0)) (now (a .1 .1 .1 .1 .0)) (now (a .1 .1 .1 .1 .1 .0)))
-    (table (now (a .1 .1 .1 .1 .1 .1 .0)) (now (a .1 .1 .1 .1 .1 .1 .1 .0)) (now (a .1 .1 .1 .1 .1 .1 .1 .1 .0)) (now (a .1 .1 .1 .1 .1 .1 .1 .1 .1 .0))
+    (table (now (a .1 .1 .1 .1 .1 .1 .0)) (now (a .1 .1 .1 .1 .1 .1 .1 .0)) (now (a .1 .1 .1 .1 .1 .1 .1 .1 .0))
+    (now (a .1 .1 .1 .1 .1 .1 .1 .1 .1 .0))
     (now (a .1 .1 .1 .1 .1 .1 .1 .1 .1 .1 .0)) (now (a .1 .1 .1 .1 .1 .1 .1 .1 .1 .1 .1 .0)))
-    (table (now (s .1 .1 .1 .1 .1 .1 .0)) (now (s .1 .1 .1 .1 .1 .1 .1 .0)) (now (s .1 .1 .1 .1 .1 .1 .1 .1 .0)) (now (s .1 .1 .1 .1 .1 .1 .1 .1 .1 .0))
+    (table (now (s .1 .1 .1 .1 .1 .1 .0)) (now (s .1 .1 .1 .1 .1 .1 .1 .0)) (now (s .1 .1 .1 .1 .1 .1 .1 .1 .0))
+    (now (s .1 .1 .1 .1 .1 .1 .1 .1 .1 .0))
     (now (s .1 .1 .1 .1 .1 .1 .1 .1 .1 .1 .0)) (now (s .1 .1 .1 .1 .1 .1 .1 .1 .1 .1 .1 .0)))
     n m
 normalise-meant κs a n m s p = rw (p .after) (normalising-meant _ _ n m (sym (p .answer)))

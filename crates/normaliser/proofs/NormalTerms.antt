@@ -64,7 +64,8 @@ module _ {A : Type 0} (f : Term → A) (ws : List ℤ) (cs : List ℕ) (o : List
   unfolding termsOn
   written-none = refl
 
-  module _ (even : length ws ≡ length cs) (room : length ws ≤ length o) (l : List A) (i : ℕ) (within : i ≤ length ws) (w : Written l i) where
+  module _ (even : length ws ≡ length cs) (room : length ws ≤ length o) (l : List A) (i : ℕ) (within : i ≤ length ws)
+      (w : Written l i) where
     count : length (map f (termsOn (take i ws) (take i cs))) ≡ i
     count =
         length-map (termsOn (take i ws) (take i cs)) f

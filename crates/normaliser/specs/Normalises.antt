@@ -2,10 +2,10 @@
 use mathlib.Core.Path.{_≡_}
 use Rattle.definitions.specs.Table.{Table, counted, after}
 use Rattle.definitions.specs.Normal.{normalising}
-use Rattle.normaliser.specs.Said.{saidAnswer}
-use Rattle.normaliser.specs.declared.Answer.{Answer}
+use Rattle.definitions.specs.Answers.{saidCounted}
+use Rattle.definitions.specs.declared.Counted.{Counted}
 
 -- the rows of the table t, normal, into the table o, which is o′ after the call
-pub record Normalises (t o : Table) (r : Answer) (o′ : Table) : Type 0 where
-  pub answer : saidAnswer r ≡ counted (normalising t o)
+pub record Normalises (t o : Table) (r : Counted) (o′ : Table) : Type 0 where
+  pub answer : saidCounted r ≡ counted (normalising t o)
   pub after : o′ ≡ after (normalising t o) o

@@ -6,9 +6,11 @@ use lib.Dec.{leb}
 use lib.ListN.{length}
 use lib.IntN.{ℤ, pos, negsuc, negℤ, _+ℤ_}
 use Rattle.definitions.specs.Limits.{weightLimit, inI64}
-use Rattle.definitions.specs.Refusal.{needed, Checked, refuse, accept}
+use Rattle.definitions.specs.Refusal.{refusal, needed, Checked, refuse, accept}
 use Rattle.definitions.specs.Row.{Kind, atLeast, atMost, equal, objective, Line, termsOf}
-use Rattle.definitions.specs.Table.{table, Outcome, refused, accepted, Entry, Totals, totalsOf, allTerms}
+use Rattle.definitions.specs.Table.{table, Outcome, refused, accepted, totalsOf, allTerms}
+use Rattle.definitions.specs.declared.Entry.{Entry}
+use Rattle.definitions.specs.declared.Totals.{Totals}
 use Rattle.definitions.specs.Normal.{normalIn}
 use Rattle.columns.specs.Parts.{codesIndexed, weightSizes}
 use Rattle.columns.specs.Kinds.{readKind}
@@ -49,3 +51,8 @@ termCount (accept l) = accept (length (termsOf l))
 abbrev pub totalsNeeded : Outcome (List Line) → Outcome Totals
 totalsNeeded (refused r) = refused r
 totalsNeeded (accepted ls) = accepted (totalsOf (length ls) (needed (length (allTerms ls))))
+
+-- "9, then 10", where there is room for so many rows and terms
+unfoldable pub totalsWithin : ℕ → ℕ → Totals → Outcome Totals
+totalsWithin rows terms t =
+    cond (leb (t .rows) rows) (cond (leb (t .terms) terms) (accepted t) (refused (refusal 10 (t .terms)))) (refused (refusal 9 (t .rows)))

@@ -1,40 +1,29 @@
 // The first walk over the rows: each is checked, rows and terms are counted (01, "Row by row 11, 8"). Assumes nothing.
+use definitions::AT_LEAST;
+use definitions::COMMENT;
+use definitions::Counted;
+use definitions::EQUAL;
+use definitions::OBJECTIVE;
+use definitions::Refusal;
+use definitions::Totals;
+use definitions::WEIGHT_LIMIT;
 ghost use mathlib.Core.Path.{_≡_};
 ghost use Prim.Native.Nat.{_+_, _≤_};
+ghost use Rattle.definitions.specs.Answers.{saidCounted};
 ghost use Rattle.definitions.specs.Limits.{weightLimit};
+ghost use Rattle.definitions.specs.Normal.{normalising};
 ghost use Rattle.definitions.specs.Refusal.{needed};
-ghost use Rattle.definitions.specs.Table.{table};
+ghost use Rattle.definitions.specs.Table.{table, counted};
 ghost use Rattle.columns.specs.Parts.{weightSizes};
 ghost use Rattle.columns.specs.Kinds.{readKind};
-ghost use Rattle.normaliser.specs.Parts.{riseOf, weightRises, shiftBy, termsChecked, normalOf, termCount, totalsNeeded};
+ghost use Rattle.normaliser.specs.Parts.{riseOf, weightRises, shiftBy, termsChecked, normalOf, termCount, totalsNeeded, totalsWithin};
 ghost use Rattle.normaliser.specs.Fill.{normalRows};
-ghost use Rattle.normaliser.specs.Said.{saidRow, saidCounted};
-
-// The numbers of the read rows in the column of kinds are 0 to 4.
-pub(crate) const COMMENT: u8 = 0;
-
-const AT_LEAST: u8 = 1;
-
-const EQUAL: u8 = 3;
-
-const OBJECTIVE: u8 = 4;
-
-// "sum of absolute weights in a row ... (M)"
-const WEIGHT_LIMIT: u64 = 9_223_372_036_854_775_807;
-
-// "A needed number above 18,446,744,073,709,551,615 is given as that one."
-const NEEDED_LIMIT: usize = 18_446_744_073_709_551_615;
+ghost use Rattle.normaliser.specs.Said.{saidRow};
 
 // The count of terms of a row, or the number of its refusal.
 pub enum RowCheck {
     Accepted(usize),
     Refused(u8),
-}
-
-// The rows and terms that there are to fill, or the first refusal with its row.
-pub enum Counted {
-    Refused { number: u8, place: usize },
-    Rows { rows: usize, terms: usize },
 }
 
 // -w of a negative weight w, 0 of any other.
@@ -119,14 +108,20 @@ fn check_row(
 fn add_needed(count: usize, n: usize) -> usize
     ensures { λ r. ⌜ r ≡ needed (count + n) ⌝ }
 {
-    if n > NEEDED_LIMIT - count {
-        return NEEDED_LIMIT;
-    }
-    count + n
+    lengths::add_needed(count as u64, n as u64) as usize
+}
+
+fn refused(number: u8, place: usize) -> Counted
+    ensures { λ r. ⌜ r ≡ Counted.Refused (record { number = number; place = place }) ⌝ }
+{
+    Counted::Refused(Refusal {
+        number,
+        place: place as u64,
+    })
 }
 
 // "A call over a table takes every row lent; rows count from 0."
-pub(crate) fn count_rows(
+fn count_rows(
     kinds: &[u8],
     firsts: &[usize],
     counts: &[usize],
@@ -142,7 +137,7 @@ pub(crate) fn count_rows(
     while i < rows {
         match check_row(kinds[i], firsts[i], counts[i], bounds[i], weights, literals) {
             RowCheck::Refused(number) => {
-                return Counted::Refused { number, place: i };
+                return refused(number, i);
             }
             RowCheck::Accepted(n) => {
                 terms = add_needed(terms, n);
@@ -150,5 +145,46 @@ pub(crate) fn count_rows(
         }
         i += 1;
     }
-    Counted::Rows { rows, terms }
+    Counted::Table(Totals { rows, terms })
+}
+
+// "Then 9, 10."
+fn within(totals: Totals, rows: usize, terms: usize) -> Counted
+    ensures { λ r. ⌜ saidCounted r ≡ totalsWithin rows terms totals ⌝ }
+{
+    if rows < totals.rows {
+        return refused(9, totals.rows);
+    }
+    if terms < totals.terms {
+        return refused(10, totals.terms);
+    }
+    Counted::Table(totals)
+}
+
+// What the call is to answer: the rows and terms that there are to fill, or the refusal.
+pub(crate) fn measure(
+    kinds: &[u8],
+    firsts: &[usize],
+    counts: &[usize],
+    bounds: &[i64],
+    weights: &[i64],
+    literals: &[u32],
+    outkinds: &[u8],
+    outfirsts: &[usize],
+    outcounts: &[usize],
+    outbounds: &[i64],
+    outweights: &[i64],
+    outliterals: &[u32],
+) -> Counted
+    ensures { λ r. ⌜ saidCounted r ≡ counted (normalising (table (now (kinds .entry)) (now (firsts .entry)) (now (counts .entry)) (now (bounds .entry)) (now (weights .entry)) (now (literals .entry)))
+        (table (now (outkinds .entry)) (now (outfirsts .entry)) (now (outcounts .entry)) (now (outbounds .entry)) (now (outweights .entry)) (now (outliterals .entry)))) ⌝ }
+{
+    match count_rows(kinds, firsts, counts, bounds, weights, literals) {
+        Counted::Refused(refusal) => Counted::Refused(refusal),
+        Counted::Table(totals) => {
+            let rows = columns::row_room(outkinds, outfirsts, outcounts, outbounds);
+            let terms = columns::term_room(outweights, outliterals);
+            within(totals, rows, terms)
+        }
+    }
 }

@@ -1,6 +1,7 @@
 // The second walk over rows that are all accepted, into columns that have room: what the first walk counted is filled, "packed row after row". Each function
 // asks for just that, so all are the crate's own. Assumes nothing.
-use symbols::Lit;
+use definitions::COMMENT;
+use literals::Lit;
 ghost use mathlib.Core.Path.{_≡_};
 ghost use mathlib.Core.List.{List, map};
 ghost use Prim.Native.Nat.{_≤_};
@@ -71,7 +72,7 @@ fn fill_row(
     requires { ⌜ RowReady (normalOf (record { kind = kind; first = first; count = count; bound = bound }) (now weights) (now literals)) (now outweights) (now outliterals) ⌝ }
     ensures { λ r. ⌜ RowFilled (normalOf (record { kind = kind; first = first; count = count; bound = bound }) (now (weights .entry)) (now (literals .entry))) term (now (outweights .entry)) (now (outliterals .entry)) r (now (outweights .exit)) (now (outliterals .exit)) ⌝ }
 {
-    if kind == crate::check::COMMENT {
+    if kind == COMMENT {
         return Filled {
             first,
             bound,

@@ -1,5 +1,4 @@
+pub mod Room
 pub mod Signed
 pub mod Walk
-pub mod Four
-pub mod Print
 pub mod OneAnswer

@@ -13,7 +13,8 @@ use types.Run.{OneOf}
 use Rattle.definitions.specs.Bytes.{plus, minus}
 use Rattle.definitions.specs.Reader.{none, got}
 use Rattle.definitions.specs.Number.{leading, valueOn, value, signed, ended, number}
-use Rattle.definitions.proofs.Numbers.{leading-digit, leading-low, leading-high, leading-length, value-snoc, most, signed-within, signed-beyond, number-minus, number-plus, ended-none, ended-beyond, ended-got}
+use Rattle.definitions.proofs.Numbers.{leading-digit, leading-low, leading-high, leading-length, value-snoc, most}
+use Rattle.definitions.proofs.Numbers.{signed-within, signed-beyond, number-minus, number-plus, ended-none, ended-beyond, ended-got}
 use Rattle.numbers.specs.declared.Run.{Run}
 use Rattle.numbers.specs.Read.{cap, runOf}
 
@@ -94,7 +95,8 @@ module _ (negative : Bool) (k : ℕ) (s : List ℕ) (r : Run) (e : r ≡ runOf s
       rw (v, counted) (sym (ended-got negative k (leading s) (λ q. n (counted ∙ q)) (signed-within negative _ (omega arith))))
 
 -- ---- a number that begins with a sign of either kind
-pub number-behind-sign : (s : List ℕ) → 0 < length s → OneOf (plus ∷ minus ∷ []) (getD s 0 0) → number s ≡ ended (eqb (getD s 0 0) minus) 1 (leading (drop 1 s))
+pub number-behind-sign : (s : List ℕ) → 0 < length s → OneOf (plus ∷ minus ∷ []) (getD s 0 0)
+    → number s ≡ ended (eqb (getD s 0 0) minus) 1 (leading (drop 1 s))
 number-behind-sign s h (inl e) = number-plus s h e ∙ rw e
 number-behind-sign s h (inr e) = number-minus s h e ∙ rw e
 

@@ -14,7 +14,8 @@ abbrev pub said : NumberRead → Got ℤ
 said (Number z n) = got z n
 said Missing = none 3
 
--- A size stops here, so that any number of digits is read. It is one more than 64 signed bits hold at either sign, so a size that stopped is beyond them,
+-- A size stops here, so that any number of digits is read. It is one more than 64 signed bits hold at either sign, so a
+-- size that stopped is beyond them,
 -- and it is beyond a file number too.
 abbrev pub cap : ℕ
 cap = 9_223_372_036_854_775_809

@@ -1,7 +1,7 @@
 // The listing program (01, "Examples on each side"): an OPB file on standard input, its house lines on standard output. All it does itself is to read and to
 // print; `listing::list_file` does the work, and its contract says which bytes are printed. What cannot be read or printed is said on standard error.
-use house::Listed;
-use numbers::Put;
+use definitions::Length;
+use outputs::Put;
 use streams::Input;
 
 // "first index 1, up to 4,096 rows and 8,192 terms"
@@ -23,11 +23,8 @@ fn list(file: &[u8], out: &mut [u8]) -> Put {
         &mut literals,
         out,
     ) {
-        Listed::Listed(length) => Put::Done(length),
-        Listed::Refused {
-            number: _,
-            place: _,
-        } => Put::Full,
+        Length::Is(length) => Put::Done(length),
+        Length::Refused(_) => Put::Full,
     }
 }
 
@@ -53,7 +50,7 @@ fn show(file: &[u8]) {
 // "more input: refusal 1"
 fn refuse() {
     let mut out = [0u8; 12];
-    let put = house::list_refusal(1, 0, &mut out);
+    let put = refusals::list_refusal(1, 0, &mut out);
     show_put(put, &out);
 }
 

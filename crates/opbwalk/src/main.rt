@@ -1,10 +1,12 @@
 // The listing program of 01, "Examples on each side", with a file that is walked: an OPB file on standard input, its house lines on standard output, the same as opblist's. It keeps no table: one walk
 // of steps checks and counts (`walker::count_steps`), a second prints each statement's line as it is met. What cannot be read or printed is said on standard error.
+use definitions::Counted;
+use definitions::Entry;
+use definitions::Length;
 use definitions::Options;
-use house::Listed;
-use numbers::Put;
-use reader::Counted;
-use reader::FilledTerms;
+use definitions::Refusal;
+use definitions::Totals;
+use outputs::Put;
 use streams::Input;
 use walker::Stepped;
 
@@ -32,53 +34,46 @@ fn show_put(put: Put, out: &[u8]) -> bool {
     }
 }
 
-fn refuse(number: u8, place: usize) {
+fn refuse(refusal: Refusal) {
     let mut out = [0u8; 33];
-    let put = house::list_refusal(number, place as u64, &mut out);
+    let put = refusals::list_refusal(refusal.number, refusal.place, &mut out);
     show_put(put, &out);
 }
 
 // "The first line is rows, terms, first index."
 fn put_head(rows: u64, terms: u64, out: &mut [u8]) -> Put {
-    let Put::Done(a) = numbers::print_text(b"opb\t", out, 0) else {
+    let Put::Done(a) = outputs::print_text(b"opb\t", out, 0) else {
         return Put::Full;
     };
-    let Put::Done(b) = numbers::print_count(rows, out, a) else {
+    let Put::Done(b) = outputs::print_count(rows, out, a) else {
         return Put::Full;
     };
-    let Put::Done(c) = numbers::print_text(b"\t", out, b) else {
+    let Put::Done(c) = outputs::print_text(b"\t", out, b) else {
         return Put::Full;
     };
-    let Put::Done(d) = numbers::print_count(terms, out, c) else {
+    let Put::Done(d) = outputs::print_count(terms, out, c) else {
         return Put::Full;
     };
-    numbers::print_text(b"\t1\n", out, d)
+    outputs::print_text(b"\t1\n", out, d)
 }
 
-fn print_head(rows: usize, terms: usize) -> bool {
+fn print_head(found: Totals) -> bool {
     let mut out = [0u8; 48];
-    let put = put_head(rows as u64, terms as u64, &mut out);
+    let put = put_head(found.rows as u64, found.terms as u64, &mut out);
     show_put(put, &out)
 }
 
 // The head of a table of one row: `opb`, 1, so many terms, 1, parted by tabs, and an LF.
 fn head_length(terms: usize) -> usize {
-    9 + numbers::count_length(terms as u64)
+    9 + lengths::count_length(terms as u64)
 }
 
 // The line of one row, whose terms stand at the front of the columns: that of a table of one row, without the head.
-fn print_row(
-    kind: u8,
-    count: usize,
-    bound: i64,
-    weights: &[i64],
-    literals: &[u32],
-    out: &mut [u8],
-) -> bool {
-    let kinds = [kind; 1];
+fn print_row(entry: Entry, weights: &[i64], literals: &[u32], out: &mut [u8]) -> bool {
+    let kinds = [entry.kind; 1];
     let firsts = [0usize; 1];
-    let counts = [count; 1];
-    let bounds = [bound; 1];
+    let counts = [entry.count; 1];
+    let bounds = [entry.bound; 1];
     match house::list_table(
         &kinds,
         &firsts,
@@ -90,14 +85,15 @@ fn print_row(
         1,
         out,
     ) {
-        Listed::Refused {
-            number: _,
-            place: _,
-        } => {
+        Length::Refused(_) => {
             streams::say(b"opbwalk: the line does not fit the output buffer\n");
             false
         }
-        Listed::Listed(n) => print_part(out, head_length(reader::terms_of(kind, count)), n),
+        Length::Is(n) => print_part(
+            out,
+            head_length(columns::terms_of(entry.kind, entry.count)),
+            n,
+        ),
     }
 }
 
@@ -114,23 +110,18 @@ fn print_part(out: &[u8], start: usize, end: usize) -> bool {
 fn print_statement(
     file: &[u8],
     at: usize,
-    kind: u8,
-    count: usize,
-    bound: i64,
+    entry: Entry,
     weights: &mut [i64],
     literals: &mut [u32],
     out: &mut [u8],
 ) -> bool {
     let options = Options { first: 1 };
     match walker::fill_at(file, options, at, weights, literals) {
-        FilledTerms::Refused {
-            number: _,
-            place: _,
-        } => {
+        Length::Refused(_) => {
             streams::say(b"opbwalk: the terms do not fit their columns\n");
             false
         }
-        FilledTerms::Terms(_) => print_row(kind, count, bound, weights, literals, out),
+        Length::Is(_) => print_row(entry, weights, literals, out),
     }
 }
 
@@ -139,17 +130,10 @@ fn print_statements(file: &[u8], weights: &mut [i64], literals: &mut [u32], out:
     let options = Options { first: 1 };
     let mut at: usize = 0;
     loop {
-        let Stepped::Line {
-            kind,
-            first: _,
-            count,
-            bound,
-            next,
-        } = walker::statement_at(file, options, at)
-        else {
+        let Stepped::Line { entry, next } = walker::step_at(file, options, at) else {
             return;
         };
-        if !print_statement(file, at, kind, count, bound, weights, literals, out) {
+        if !print_statement(file, at, entry, weights, literals, out) {
             return;
         }
         at = next;
@@ -168,17 +152,23 @@ fn list(file: &[u8]) {
 fn show(file: &[u8]) {
     let options = Options { first: 1 };
     match walker::count_steps(file, options) {
-        Counted::Refused { number, place } => refuse(number, place),
-        Counted::Table { rows, terms } => {
-            if rows > ROWS {
-                refuse(9, rows);
+        Counted::Refused(refusal) => refuse(refusal),
+        Counted::Table(found) => {
+            if found.rows > ROWS {
+                refuse(Refusal {
+                    number: 9,
+                    place: found.rows as u64,
+                });
                 return;
             }
-            if terms > TERMS {
-                refuse(10, terms);
+            if found.terms > TERMS {
+                refuse(Refusal {
+                    number: 10,
+                    place: found.terms as u64,
+                });
                 return;
             }
-            if print_head(rows, terms) {
+            if print_head(found) {
                 list(file);
             }
         }
@@ -189,7 +179,10 @@ fn main() {
     let mut input = [0; 65536];
     match streams::read_input(&mut input) {
         Input::Bytes(n) => show(&input[..n]),
-        Input::More => refuse(1, 0),
+        Input::More => refuse(Refusal {
+            number: 1,
+            place: 0,
+        }),
         Input::Failed => streams::say(b"opbwalk: standard input cannot be read\n"),
     }
 }

@@ -1,5 +1,3 @@
-pub mod Closings
-pub mod Comments
 pub mod Literals
 pub mod Terms
 pub mod OneAnswer

@@ -1,4 +1,5 @@
--- Laws for the code of literals: what `digits`, `variable` and `literal` are in each case that the code tells apart, and how many bytes they take.
+-- Laws for the code of literals: what `digits`, `variable` and `literal` are in each case that the code tells apart,
+-- and how many bytes they take.
 use Prim.Native.Nat.{ℕ, _+_, _-_, _≤_, min}
 use mathlib.Core.Path.{_≡_, refl, sym, ap, _∙_}
 use mathlib.Core.Logic.{_⊎_, inl, inr}
@@ -20,7 +21,7 @@ use Rattle.definitions.specs.declared.Options.{Options}
 use Rattle.definitions.proofs.Statements.{within-literal}
 use Rattle.numbers.specs.Read.{cap, runOf}
 use Rattle.numbers.specs.declared.Run.{Run}
-use Rattle.symbols.proofs.Conversions.{index-beyond, index-above-limit, literal-within}
+use Rattle.literals.proofs.Conversions.{index-beyond, index-above-limit, literal-within}
 
 -- ---- an index that is accepted
 
@@ -39,7 +40,8 @@ accepted false v m e = let z : _≡_ {A = ℕ} 0 1 = cc in absurd (omega arith)
 -- it is within the limit, so it has a code
 index-coded : (negative : Bool) (first n v : ℕ) → accept v ≡ index first n → codeFor negative v ≡ accept (codeOf negative v)
 unfolding index
-index-coded negative first n v e = cases (accepted (leb n fileNumberLimit && (leb first n && leb (n - first) indexLimit)) v (n - first) e) (decLe v indexLimit)
+index-coded negative first n v e =
+    cases (accepted (leb n fileNumberLimit && (leb first n && leb (n - first) indexLimit)) v (n - first) e) (decLe v indexLimit)
   where
     cases : v ≡ n - first → Dec (v ≤ indexLimit) → codeFor negative v ≡ accept (codeOf negative v)
     cases is (yes h) = sym (literal-within negative v h)
@@ -66,7 +68,8 @@ module _ (o : Options) (negative : Bool) (s : List ℕ) (run : Run) (is : run �
     pub digits-indexed : (g : Checked ℕ) → g ≡ index (o .first) (run .size) → codeBy negative (run .count) g ≡ digits o negative s
     unfolding digits
     digits-indexed g e =
-        let f : index (o .first) (value (leading s)) ≡ g = sym (e ∙ ap (λ (r : Run). index (o .first) (r .size)) is ∙ capped-index (o .first) (value (leading s))) in
+        let f : index (o .first) (value (leading s)) ≡ g =
+        sym (e ∙ ap (λ (r : Run). index (o .first) (r .size)) is ∙ capped-index (o .first) (value (leading s))) in
         rw (counted, ne-eqb (run .count) 0 some, f)
 
     pub digits-coded : (v : ℕ) → accept v ≡ index (o .first) (run .size) → (g : Checked ℕ) → g ≡ codeFor negative v
@@ -98,7 +101,8 @@ module _ (o : Options) where
   literal-empty [] e = refl
   literal-empty (b ∷ s) e = absurd (omega arith)
 
-  pub literal-plain : (s : List ℕ) → (length s ≡ 0 → ⊥) → (getD s 0 0 ≡ tilde → ⊥) → (getD s 0 0 ≡ minus → ⊥) → variable o false s ≡ literal o s
+  pub literal-plain : (s : List ℕ) → (length s ≡ 0 → ⊥) → (getD s 0 0 ≡ tilde → ⊥) → (getD s 0 0 ≡ minus → ⊥)
+      → variable o false s ≡ literal o s
   unfolding literal
   literal-plain [] h n m = absurd (h refl)
   literal-plain (b ∷ s) h n m = rw (ne-eqb b tilde n, ne-eqb b minus m)

@@ -1,4 +1,5 @@
--- Laws for the code of terms: what `afterWeight`, `weighted` and `termStep` are in each case that the code tells apart, and how many bytes they take.
+-- Laws for the code of terms: what `afterWeight`, `weighted` and `termStep` are in each case that the code tells apart,
+-- and how many bytes they take.
 use Prim.Native.Nat.{ℕ, zero, suc, _+_, _≤_}
 use mathlib.Core.Path.{_≡_, refl, sym, ap, _∙_}
 use mathlib.Core.Bool.{Bool, true, false}
@@ -53,7 +54,8 @@ module _ (o : Options) (s : List ℕ) (k : ℕ) (is : k ≡ blanks s) where
       unfolding afterWeight
       after-weight-no-literal e q = sym (chain-got gap1 _ s k k gap-is ∙ ap (more k) (chain-none (literal o) _ (drop k s) e (sym q)))
 
-      pub after-weight-literal : (c n j : ℕ) → got c n ≡ literal o (drop k s) → j ≡ blanks (drop (k + n) s) → got (term w c) (k + n + j) ≡ afterWeight o w s
+      pub after-weight-literal : (c n j : ℕ) → got c n ≡ literal o (drop k s) → j ≡ blanks (drop (k + n) s)
+          → got (term w c) (k + n + j) ≡ afterWeight o w s
       unfolding afterWeight gap done
       after-weight-literal c n j q f =
           sym (chain-got gap1 _ s k k gap-is

@@ -1,11 +1,11 @@
 // Literals: "optional `~` or `-` (negation), `x`, digits" (01, "The text"). Assumes nothing.
 use definitions::Options;
-use symbols::FileNumber;
-use symbols::FileNumberRead;
-use symbols::Lit;
-use symbols::LitRead;
-use symbols::Var;
-use symbols::VarRead;
+use literals::FileNumber;
+use literals::FileNumberRead;
+use literals::Lit;
+use literals::LitRead;
+use literals::Var;
+use literals::VarRead;
 ghost use mathlib.Core.Path.{_≡_};
 ghost use Rattle.definitions.specs.Text.{digits, variable, literal};
 ghost use Rattle.pieces.specs.Said.{saidLiteral};

@@ -2,8 +2,8 @@
 use crate::literal::LiteralRead;
 use definitions::Beginning;
 use definitions::Options;
+use literals::Lit;
 use numbers::NumberRead;
-use symbols::Lit;
 ghost use mathlib.Core.Path.{_≡_};
 ghost use Rattle.definitions.specs.Text.{afterWeight, weighted, termStep};
 ghost use Rattle.pieces.specs.Said.{saidTerm, saidNext};

@@ -1,4 +1,5 @@
--- What is said before anything is written is what writing and reading then answer: the rows come to a text of that length, and of it come back that many lines and terms.
+-- What is said before anything is written is what writing and reading then answer: the rows come to a text of that length, and of
+-- it come back that many lines and terms.
 use Prim.Native.Nat.{ℕ, _≤_, _<_}
 use mathlib.Core.Path.{_≡_, refl, sym, ap, ap₂, _∙_}
 use mathlib.Core.Bool.{Bool, true, false}
@@ -10,19 +11,22 @@ use lib.ListN.{length, take, drop, length-append}
 use lib.Seq.{take-append-seam, length-take-le}
 use Rattle.definitions.specs.Lists.{over, joined, total}
 use Rattle.definitions.specs.Limits.{fileLimit, neededLimit}
-use Rattle.definitions.specs.Refusal.{Refusal, refusal, needed}
+use Rattle.definitions.specs.Refusal.{refusal, needed}
+use Rattle.definitions.specs.declared.Refusal.{Refusal}
 use Rattle.definitions.specs.Row.{Line}
-use Rattle.definitions.specs.Table.{Table, rowRoom, termRoom, Outcome, refused, accepted, entries, allTerms, rowByRow, fitted, Totals, totalsOf, counted, after}
+use Rattle.definitions.specs.Table.{Table, rowRoom, termRoom, Outcome, refused, accepted, entries, allTerms, rowByRow, fitted}
+use Rattle.definitions.specs.Table.{totalsOf, counted, after}
+use Rattle.definitions.specs.declared.Totals.{Totals}
 use Rattle.definitions.specs.File.{file, reading}
 use Rattle.definitions.specs.Write.{Item, itemText, writtenIn, writing, fittedText, outputAfter}
 use Rattle.definitions.specs.Back.{optionsOf, linesBack, termsBack}
 use Rattle.definitions.specs.declared.Mode.{Mode}
 use Rattle.definitions.proofs.ThereAndBack.{ThereAndBack, there-and-back}
 use Rattle.reader.specs.Reads.{Reads}
-use Rattle.reader.specs.declared.file.Answer.{Answer}
-use Rattle.writer.specs.declared.rows.Extent.{Extent}
-use Rattle.writer.specs.declared.Written.{Written}
-use Rattle.writer.specs.Walks.{extentsOf, extentBy, extentFor}
+use Rattle.definitions.specs.declared.Counted.{Counted}
+use Rattle.measures.specs.declared.rows.Extent.{Extent}
+use Rattle.definitions.specs.declared.Length.{Length}
+use Rattle.measures.specs.Walks.{extentsOf, extentBy, extentFor}
 use Rattle.writer.specs.Writes.{Writes}
 use Rattle.promise.specs.Returns.{Return, unwritten, unread, back, readBack, returning, foretold, outputKept, tablesAfter, Returns}
 use Rattle.promise.specs.declared.Returned.the-variants.{NotWritten, NotRead, Back}
@@ -50,11 +54,13 @@ module _ (x : Extent) (room rows terms : ℕ) where
       module _ (c : x .lines ≤ rows) where
         pub foretold-terms : terms < x .terms → foretold x room rows terms ≡ unread (refusal 10 (x .terms))
         unfolding foretold
-        foretold-terms h = rw (le-leb (x .length) room a, le-leb (x .length) fileLimit b, le-leb (x .lines) rows c, lt-leb (x .terms) terms h)
+        foretold-terms h =
+            rw (le-leb (x .length) room a, le-leb (x .length) fileLimit b, le-leb (x .lines) rows c, lt-leb (x .terms) terms h)
 
         pub foretold-back : x .terms ≤ terms → foretold x room rows terms ≡ back (x .length) (totalsOf (x .lines) (x .terms))
         unfolding foretold
-        foretold-back h = rw (le-leb (x .length) room a, le-leb (x .length) fileLimit b, le-leb (x .lines) rows c, le-leb (x .terms) terms h)
+        foretold-back h =
+            rw (le-leb (x .length) room a, le-leb (x .length) fileLimit b, le-leb (x .lines) rows c, le-leb (x .terms) terms h)
 
 -- ---- the items that the rows come to
 
@@ -71,15 +77,18 @@ module _ (m : Mode) (t : Table) (text : List ℕ) where
       by (refused r) p q = never (cc)
       by (accepted is) p q = record { items = is; are = p; extent = cc }
 
-  pub refused-before : (room n p : ℕ) (new : Table) → refused (refusal n p) ≡ extentFor m t text → unwritten (refusal n p) ≡ returning m new (writing m t text room)
+  pub refused-before : (room n p : ℕ) (new : Table) → refused (refusal n p) ≡ extentFor m t text
+      → unwritten (refusal n p) ≡ returning m new (writing m t text room)
   unfolding writing
   refused-before room n p new e = by (rowByRow (writtenIn m t text) 0 (entries t)) refl e
     where
-      by : (os : Outcome (List Item)) → rowByRow (writtenIn m t text) 0 (entries t) ≡ os → refused (refusal n p) ≡ extentBy m os → unwritten (refusal n p) ≡ returning m new (writing m t text room)
+      by : (os : Outcome (List Item)) → rowByRow (writtenIn m t text) 0 (entries t) ≡ os → refused (refusal n p) ≡ extentBy m os
+          → unwritten (refusal n p) ≡ returning m new (writing m t text room)
       by (refused r) w q = let k : refusal n p ≡ r = cc in rw w (ap unwritten k)
       by (accepted is) w q = never (cc)
 
-  module _ (room : ℕ) (new : Table) (small : room < neededLimit) (few : rowRoom new < neededLimit) (short : termRoom new < neededLimit) (x : Extent) (e : accepted x ≡ extentFor m t text) where
+  module _ (room : ℕ) (new : Table) (small : room < neededLimit) (few : rowRoom new < neededLimit)
+      (short : termRoom new < neededLimit) (x : Extent) (e : accepted x ≡ extentFor m t text) where
     known : Items x
     known = items-of x e
 
@@ -113,7 +122,8 @@ module _ (m : Mode) (t : Table) (text : List ℕ) where
       terms-are : x .terms ≡ needed (length (allTerms (there .lines)))
       terms-are = ap (λ (y : Extent). y .terms) (known .extent) ∙ ap needed (sym (there .terms ∙ ap (total termsBack) same-items))
 
-      answered : (o : Outcome (List Line)) → reading (optionsOf m) s new ≡ o → returning m new (writing m t text room) ≡ readBack s (counted o)
+      answered : (o : Outcome (List Line)) → reading (optionsOf m) s new ≡ o
+          → returning m new (writing m t text room) ≡ readBack s (counted o)
       answered o q = rw wrote (ap (λ (z : Outcome (List Line)). readBack s (counted z)) q)
 
       too-long : fileLimit < length s → reading (optionsOf m) s new ≡ refused (refusal 1 0)
@@ -125,9 +135,12 @@ module _ (m : Mode) (t : Table) (text : List ℕ) where
         unfolding fitted
         no-rows h = there .read within new ∙ rw (lt-leb (length (there .lines)) (rowRoom new) h)
 
-        no-terms : length (there .lines) ≤ rowRoom new → termRoom new < length (allTerms (there .lines)) → reading (optionsOf m) s new ≡ refused (refusal 10 (needed (length (allTerms (there .lines)))))
+        no-terms : length (there .lines) ≤ rowRoom new → termRoom new < length (allTerms (there .lines))
+            → reading (optionsOf m) s new ≡ refused (refusal 10 (needed (length (allTerms (there .lines)))))
         unfolding fitted
-        no-terms g h = there .read within new ∙ rw (le-leb (length (there .lines)) (rowRoom new) g, lt-leb (length (allTerms (there .lines))) (termRoom new) h)
+        no-terms g h =
+            there .read within new
+            ∙ rw (le-leb (length (there .lines)) (rowRoom new) g, lt-leb (length (allTerms (there .lines))) (termRoom new) h)
 
         abbrev said : Return
         said = foretold x room (rowRoom new) (termRoom new)
@@ -142,7 +155,8 @@ module _ (m : Mode) (t : Table) (text : List ℕ) where
         unfolding needed
         read-back = rows (leb (length (there .lines)) (rowRoom new)) refl
           where
-            terms : (g : length (there .lines) ≤ rowRoom new) (b : Bool) → leb (length (allTerms (there .lines))) (termRoom new) ≡ b → said ≡ returning m new (writing m t text room)
+            terms : (g : length (there .lines) ≤ rowRoom new) (b : Bool) → leb (length (allTerms (there .lines))) (termRoom new) ≡ b
+                → said ≡ returning m new (writing m t text room)
             terms g true q =
                 let h : length (allTerms (there .lines)) ≤ termRoom new = leb-true _ _ q in
                 let n : x .lines ≡ length (there .lines) = omega (arith, lines-are) in
@@ -164,11 +178,13 @@ module _ (m : Mode) (t : Table) (text : List ℕ) where
                 ∙ ap (λ (y : ℕ). unread (refusal 9 y)) lines-are
                 ∙ sym (answered (refused (refusal 9 (needed (length (there .lines))))) (no-rows h))
 
-      file-read : (b : Bool) → leb (length s) fileLimit ≡ b → foretold x room (rowRoom new) (termRoom new) ≡ returning m new (writing m t text room)
+      file-read : (b : Bool) → leb (length s) fileLimit ≡ b
+          → foretold x room (rowRoom new) (termRoom new) ≡ returning m new (writing m t text room)
       file-read true q = read-back (leb-true _ _ q)
       file-read false q =
           let h : fileLimit < length s = leb-false _ _ q in
-          foretold-long x room (rowRoom new) (termRoom new) (omega (arith, length-is)) (omega (arith, length-is)) ∙ sym (answered (refused (refusal 1 0)) (too-long h))
+          foretold-long x room (rowRoom new) (termRoom new) (omega (arith, length-is)) (omega (arith, length-is))
+          ∙ sym (answered (refused (refusal 1 0)) (too-long h))
 
     pub foretold-is : foretold x room (rowRoom new) (termRoom new) ≡ returning m new (writing m t text room)
     unfolding needed
@@ -179,7 +195,8 @@ module _ (m : Mode) (t : Table) (text : List ℕ) where
         by false q =
             let h : room < length s = leb-false _ _ q in
             let w : writing m t text room ≡ refused (refusal 14 (needed (length s))) = written ∙ rw q in
-            foretold-full x room (rowRoom new) (termRoom new) (omega (arith, long)) ∙ ap (λ (y : ℕ). unwritten (refusal 14 y)) long ∙ sym (ap (returning m new) w)
+            foretold-full x room (rowRoom new) (termRoom new) (omega (arith, long)) ∙ ap (λ (y : ℕ). unwritten (refusal 14 y)) long
+            ∙ sym (ap (returning m new) w)
 
 -- ---- what is left behind
 
@@ -211,7 +228,8 @@ module _ (m : Mode) (t : Table) (text o : List ℕ) (new : Table) where
   unfolding after
   refused-reading r e = by text-of refl e
     where
-      read : (s : List ℕ) → text-of ≡ accepted s → (x : Outcome (List Line)) → reading (optionsOf m) s new ≡ x → unread r ≡ readBack s (counted x) → Unchanged
+      read : (s : List ℕ) → text-of ≡ accepted s → (x : Outcome (List Line)) → reading (optionsOf m) s new ≡ x
+          → unread r ≡ readBack s (counted x) → Unchanged
       read s p (refused q) f g = record { output = rw p (rw f); tables = rw p (rw f) }
       read s p (accepted ls) f g = never (cc)
 
@@ -240,7 +258,8 @@ module _ (m : Mode) (t : Table) (text o : List ℕ) (new : Table) where
   good-back : (l : ℕ) (q : Totals) → back l q ≡ returning m new text-of → Good l
   good-back l q e = by text-of refl e
     where
-      read : (s : List ℕ) → text-of ≡ accepted s → (x : Outcome (List Line)) → reading (optionsOf m) s new ≡ x → back l q ≡ readBack s (counted x) → Good l
+      read : (s : List ℕ) → text-of ≡ accepted s → (x : Outcome (List Line)) → reading (optionsOf m) s new ≡ x
+          → back l q ≡ readBack s (counted x) → Good l
       read s p (refused r) f g = never (cc)
       read s p (accepted ls) f g = record { bytes = s; is = p; long = cc; lines = ls; reads = f }
 
@@ -248,7 +267,8 @@ module _ (m : Mode) (t : Table) (text o : List ℕ) (new : Table) where
       by (refused r) p f = never (cc)
       by (accepted s) p f = read s p (reading (optionsOf m) s new) refl f
 
-  module _ (l n k : ℕ) (e : back l (totalsOf n k) ≡ returning m new text-of) (w : Written) (o' : List ℕ) (wrote : Writes m t text o w o') where
+  module _ (l n k : ℕ) (e : back l (totalsOf n k) ≡ returning m new text-of) (w : Length) (o' : List ℕ)
+      (wrote : Writes m t text o w o') where
     good : Good l
     good = good-back l (totalsOf n k) e
 
@@ -265,7 +285,7 @@ module _ (m : Mode) (t : Table) (text o : List ℕ) (new : Table) where
     part-is-text : take l o' ≡ good .bytes
     part-is-text = taken l (good .bytes) o o' output-is (good .long)
 
-    pub came-back : (a : Answer) (new' : Table) → Reads (optionsOf m) (take l o') new a new' → Returns m t text o new (Back l n k) o' new'
+    pub came-back : (a : Counted) (new' : Table) → Reads (optionsOf m) (take l o') new a new' → Returns m t text o new (Back l n k) o' new'
     came-back a new' r =
         let q : Reads (optionsOf m) (good .bytes) new a new' = rw part-is-text at r in
         record {

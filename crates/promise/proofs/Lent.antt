@@ -5,5 +5,6 @@ use lib.IntN.{ℤ}
 use denote.Ref.{RefT, now}
 use Rattle.definitions.specs.Table.{Table, table}
 
-abbrev pub columns : {R : Type 0} → RefT (List ℕ) × (RefT (List ℕ) × (RefT (List ℕ) × (RefT (List ℤ) × (RefT (List ℤ) × (RefT (List ℕ) × R))))) → Table
+abbrev pub columns : {R : Type 0}
+    → RefT (List ℕ) × (RefT (List ℕ) × (RefT (List ℕ) × (RefT (List ℤ) × (RefT (List ℤ) × (RefT (List ℕ) × R))))) → Table
 columns a = table (now (a .0)) (now (a .1 .0)) (now (a .1 .1 .0)) (now (a .1 .1 .1 .0)) (now (a .1 .1 .1 .1 .0)) (now (a .1 .1 .1 .1 .1 .0))

@@ -3,8 +3,10 @@ use mathlib.Core.Path.{_≡_, sym, ap, _∙_}
 use Prim.Native.Nat.{ℕ}
 use native.Mathlib.Omega.{arith}
 use denote.Ref.{now}
-use Rattle.definitions.specs.Refusal.{Refusal, refusal}
-use Rattle.definitions.specs.Table.{table, Totals, totalsOf}
+use Rattle.definitions.specs.Refusal.{refusal}
+use Rattle.definitions.specs.declared.Refusal.{Refusal}
+use Rattle.definitions.specs.Table.{table, totalsOf}
+use Rattle.definitions.specs.declared.Totals.{Totals}
 use Rattle.promise.specs.Returns.{saidReturned}
 use Rattle.promise.specs.declared.Returned.{Returned}
 use Rattle.promise.specs.declared.Returned.the-variants.{NotWritten, NotRead, Back}
@@ -39,8 +41,15 @@ said-one (Back l n m) (Back l' n' m') e =
 pub there-and-back-one : (κs : _) (a : _) (r r' : _) (s s' : _) → there-and-back.Post κs a r s → there-and-back.Post κs a r' s'
     → (r ≡ r')
     × (now (s .1 .1 .1 .1 .1 .1 .1 .1 .0) ≡ now (s' .1 .1 .1 .1 .1 .1 .1 .1 .0))
-    × (table (now (s .1 .1 .1 .1 .1 .1 .1 .1 .1 .0)) (now (s .1 .1 .1 .1 .1 .1 .1 .1 .1 .1 .0)) (now (s .1 .1 .1 .1 .1 .1 .1 .1 .1 .1 .1 .0)) (now (s .1 .1 .1 .1 .1 .1 .1 .1 .1 .1 .1 .1 .0))
+    × (table (now (s .1 .1 .1 .1 .1 .1 .1 .1 .1 .0)) (now (s .1 .1 .1 .1 .1 .1 .1 .1 .1 .1 .0))
+    (now (s .1 .1 .1 .1 .1 .1 .1 .1 .1 .1 .1 .0)) (now (s .1 .1 .1 .1 .1 .1 .1 .1 .1 .1 .1 .1 .0))
     (now (s .1 .1 .1 .1 .1 .1 .1 .1 .1 .1 .1 .1 .1 .0)) (now (s .1 .1 .1 .1 .1 .1 .1 .1 .1 .1 .1 .1 .1 .1 .0))
-    ≡ table (now (s' .1 .1 .1 .1 .1 .1 .1 .1 .1 .0)) (now (s' .1 .1 .1 .1 .1 .1 .1 .1 .1 .1 .0)) (now (s' .1 .1 .1 .1 .1 .1 .1 .1 .1 .1 .1 .0)) (now (s' .1 .1 .1 .1 .1 .1 .1 .1 .1 .1 .1 .1 .0))
+    ≡ table (now (s' .1 .1 .1 .1 .1 .1 .1 .1 .1 .0)) (now (s' .1 .1 .1 .1 .1 .1 .1 .1 .1 .1 .0))
+    (now (s' .1 .1 .1 .1 .1 .1 .1 .1 .1 .1 .1 .0)) (now (s' .1 .1 .1 .1 .1 .1 .1 .1 .1 .1 .1 .1 .0))
     (now (s' .1 .1 .1 .1 .1 .1 .1 .1 .1 .1 .1 .1 .1 .0)) (now (s' .1 .1 .1 .1 .1 .1 .1 .1 .1 .1 .1 .1 .1 .1 .0)))
-there-and-back-one κs a r r' s s' p q = (said-one r r' (p .answer ∙ sym (q .answer)), p .output ∙ sym (q .output), p .tables ∙ sym (q .tables))
+there-and-back-one κs a r r' s s' p q = (
+  said-one r r' (p .answer ∙ sym (q .answer)),
+  p .output ∙ sym (q .output),
+  p .tables
+      ∙ sym (q .tables),
+)

@@ -7,15 +7,17 @@ use lib.Dec.{leb}
 use lib.ListN.{length}
 use Rattle.definitions.specs.Lists.{over}
 use Rattle.definitions.specs.Limits.{fileLimit}
-use Rattle.definitions.specs.Refusal.{Refusal, refusal}
+use Rattle.definitions.specs.Refusal.{refusal}
+use Rattle.definitions.specs.declared.Refusal.{Refusal}
 use Rattle.definitions.specs.Row.{Line}
-use Rattle.definitions.specs.Table.{Table, Outcome, refused, accepted, Totals, totalsOf, counted, after}
+use Rattle.definitions.specs.Table.{Table, Outcome, refused, accepted, totalsOf, counted, after}
+use Rattle.definitions.specs.declared.Totals.{Totals}
 use Rattle.definitions.specs.File.{reading}
 use Rattle.definitions.specs.Write.{writing}
 use Rattle.definitions.specs.Back.{optionsOf}
 use Rattle.definitions.proofs.ThereAndBack.{ThereAndBack}
 use Rattle.definitions.specs.declared.Mode.{Mode}
-use Rattle.writer.specs.declared.rows.Extent.{Extent}
+use Rattle.measures.specs.declared.rows.Extent.{Extent}
 use Rattle.promise.specs.declared.Returned.{Returned}
 use Rattle.promise.specs.declared.Returned.the-variants.{NotWritten, NotRead, Back}
 

@@ -2,8 +2,8 @@
 // What comes back is counted before anything is written, so that a refused call changes nothing. proofs/Promises.antt restates every theorem that a user relies on. Assumes nothing.
 use definitions::Mode;
 use definitions::Options;
-use writer::Extent;
-use writer::Measure;
+use measures::Extent;
+use measures::Measure;
 ghost use mathlib.Core.Path.{_≡_};
 ghost use Prim.Native.Nat.{_<_};
 ghost use Rattle.definitions.specs.Limits.{neededLimit};
@@ -41,7 +41,7 @@ fn foretell(all: Extent, room: usize, rows: usize, terms: usize) -> Returned
             place: all.length,
         };
     }
-    if length > reader::FILE_LIMIT {
+    if length > definitions::FILE_LIMIT {
         return Returned::NotRead {
             number: 1,
             place: 0,
@@ -88,8 +88,20 @@ fn foresee(
     ensures { λ r. ⌜ saidReturned r ≡ returning mode (table (now (newkinds .entry)) (now (newfirsts .entry)) (now (newcounts .entry)) (now (newbounds .entry)) (now (newweights .entry)) (now (newliterals .entry)))
         (writing mode (table (now (kinds .entry)) (now (firsts .entry)) (now (counts .entry)) (now (bounds .entry)) (now (weights .entry)) (now (literals .entry))) (now (text .entry)) room) ⌝ }
 {
-    match writer::measure_opb_lines(kinds, firsts, counts, bounds, weights, literals, text, mode) {
-        Measure::Refused { number, place } => Returned::NotWritten { number, place },
+    match measures::measure_opb_lines(
+        kinds,
+        firsts,
+        counts,
+        bounds,
+        weights,
+        literals,
+        text,
+        mode,
+    ) {
+        Measure::Refused(r) => Returned::NotWritten {
+            number: r.number,
+            place: r.place,
+        },
         Measure::Lines(all) => {
             let rows = columns::row_room(newkinds, newfirsts, newcounts, newbounds);
             let terms = columns::term_room(newweights, newliterals);

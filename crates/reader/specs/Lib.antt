@@ -1,9 +1,1 @@
-pub mod Brief
-pub mod Said
-pub mod Fitting
-pub mod Fill
 pub mod Reads
-pub mod FillsTerms
-pub mod Lanes
-pub mod Plain
-pub mod Run

@@ -9,8 +9,8 @@ use lib.IntN.{ℤ, pos, negsuc, natAbs}
 use lib.Signed.{ltZ, nonNeg}
 use lib.ListN.{length, take, drop, length-take, length-drop}
 use Rattle.libc.specs.Io.{Moved}
-use Rattle.numbers.specs.declared.Put.{Put}
-use Rattle.numbers.specs.declared.Put.the-variants.{Done, Full}
+use Rattle.outputs.specs.declared.Put.{Put}
+use Rattle.outputs.specs.declared.Put.the-variants.{Done, Full}
 use Rattle.streams.specs.declared.Input.{Input}
 use Rattle.streams.specs.declared.Input.the-variants.{Bytes, More, Failed}
 use Rattle.streams.specs.Within.{InputWithin, PrintedWithin}

@@ -2,8 +2,8 @@
 use Prim.Native.Nat.{ℕ, _≤_}
 use mathlib.Core.Bool.{Bool, true, false}
 use mathlib.Core.Path.{_≡_}
-use Rattle.numbers.specs.declared.Put.{Put}
-use Rattle.numbers.specs.declared.Put.the-variants.{Done, Full}
+use Rattle.outputs.specs.declared.Put.{Put}
+use Rattle.outputs.specs.declared.Put.the-variants.{Done, Full}
 use Rattle.streams.specs.declared.Input.{Input}
 use Rattle.streams.specs.declared.Input.the-variants.{Bytes, More, Failed}
 

@@ -3,7 +3,7 @@
 use libc::STDERR_FILENO;
 use libc::STDIN_FILENO;
 use libc::STDOUT_FILENO;
-use numbers::Put;
+use outputs::Put;
 ghost use lib.ListN.{length};
 ghost use Rattle.streams.specs.Within.{InputWithin, PrintedWithin};
 

@@ -37,7 +37,8 @@ module _ (s : List ℕ) (i : ℕ) where
 
       pub cr-alone : suc i < length s → (getD s (suc i) 0 ≡ lf → ⊥) → lineEnding (drop i s) ≡ 0
       unfolding lineEnding isAt
-      cr-alone g e = rw (drop-cons s i 0 h, ne-eqb (getD s i 0) lf n, drop-cons s (suc i) 0 g, ne-eqb (getD s (suc i) 0) lf e) (simp and-false)
+      cr-alone g e =
+          rw (drop-cons s i 0 h, ne-eqb (getD s i 0) lf n, drop-cons s (suc i) 0 g, ne-eqb (getD s (suc i) 0) lf e) (simp and-false)
 
 -- ---- the walk
 module _ (s : List ℕ) (i : ℕ) (h : i < length s) where

@@ -1,4 +1,4 @@
-pub mod Conversions
+pub mod At
 pub mod Blanks
 pub mod Endings
 pub mod OneAnswer

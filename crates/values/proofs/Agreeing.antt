@@ -1,4 +1,5 @@
--- The literals that a block says, where none conflicts: no two are opposite, and none is against what was known. Read again where they are true, they conflict with nothing.
+-- The literals that a block says, where none conflicts: no two are opposite, and none is against what was known. Read again where
+-- they are true, they conflict with nothing.
 use Prim.Native.Nat.{ℕ, _≤_}
 use mathlib.Core.Path.{_≡_, refl, sym, ap, _∙_}
 use mathlib.Core.Logic.{_⊎_, inl, inr}
@@ -8,13 +9,14 @@ use native.Mathlib.Omega.{arith}
 use borrow.Author.Tests.{eqb-true, not-false, leb-true, le-leb}
 use lib.Dec.{eqb, leb}
 use lib.Seq.{append-snoc}
-use Rattle.definitions.specs.Refusal.{Refusal, refusal, Checked, refuse, accept}
+use Rattle.definitions.specs.Refusal.{refusal, Checked, refuse, accept}
+use Rattle.definitions.specs.declared.Refusal.{Refusal}
 use Rattle.definitions.specs.Literal.{indexOf, opposite}
 use Rattle.definitions.specs.Meaning.{isTrue, assigned, isKnown}
 use Rattle.definitions.specs.Table.{Outcome, refused, accepted}
 use Rattle.definitions.specs.Values.{Item, untagged, token, among, conflicts, anyConflict, hear, literalsOf, held, lengthAfter, wordsFor}
 use Rattle.definitions.specs.declared.Form.{Form}
-use Rattle.values.proofs.Split.{never, among-snoc}
+use Rattle.heard.proofs.Split.{never, among-snoc}
 use Rattle.values.proofs.Rows.{among-here, among-later, among-left, among-right}
 
 -- ---- one literal more
@@ -57,7 +59,9 @@ module _ (ws ks : List ℕ) where
   module _ (heard : List ℕ) (c : ℕ) (h : conflicts ws ks heard c ≡ false) where
     not-against : isKnown ws ks (indexOf c) ≡ true → isTrue (assigned ws) c ≡ true
     unfolding conflicts
-    not-against = implied (isKnown ws ks (indexOf c)) (isTrue (assigned ws) c) (or-none (isKnown ws ks (indexOf c) && not (isTrue (assigned ws) c)) (among (opposite c) heard) h .0)
+    not-against =
+        implied (isKnown ws ks (indexOf c)) (isTrue (assigned ws) c)
+        (or-none (isKnown ws ks (indexOf c) && not (isTrue (assigned ws) c)) (among (opposite c) heard) h .0)
 
     pub not-opposite : among (opposite c) heard ≡ false
     unfolding conflicts
@@ -85,7 +89,8 @@ module _ (ws ks : List ℕ) where
 
   -- ---- a token's literals
 
-  any-none : (heard : List ℕ) (c : ℕ) (cs : List ℕ) → anyConflict ws ks heard (c ∷ cs) ≡ false → (conflicts ws ks heard c ≡ false) × (anyConflict ws ks (heard ++ (c ∷ [])) cs ≡ false)
+  any-none : (heard : List ℕ) (c : ℕ) (cs : List ℕ) → anyConflict ws ks heard (c ∷ cs) ≡ false
+      → (conflicts ws ks heard c ≡ false) × (anyConflict ws ks (heard ++ (c ∷ [])) cs ≡ false)
   unfolding anyConflict
   any-none heard c cs h = or-none (conflicts ws ks heard c) (anyConflict ws ks (heard ++ (c ∷ [])) cs) h
 
@@ -97,7 +102,8 @@ module _ (ws ks : List ℕ) where
 
   -- where they are true, they conflict with nothing in other rows either
   still-none :
-      (vs js : List ℕ) (cs heard : List ℕ) → anyConflict ws ks heard cs ≡ false → ((c : ℕ) → among c cs ≡ true → isTrue (assigned vs) c ≡ true) →
+      (vs js : List ℕ) (cs heard : List ℕ) → anyConflict ws ks heard cs ≡ false
+      → ((c : ℕ) → among c cs ≡ true → isTrue (assigned vs) c ≡ true) →
       anyConflict vs js heard cs ≡ false
   unfolding anyConflict conflicts
   still-none vs js [] heard h t = refl
@@ -139,13 +145,15 @@ module _ (f : Form) (n : ℕ) (ws ks heard : List ℕ) (p : ℕ) (s : List ℕ) 
       pick (refuse k) q h = not-refused h
       pick (accept ds) q h = clear ds q (anyConflict ws ks heard ds) refl h
 
-  takes : (ds : List ℕ) → literalsOf f n s ≡ accept ds → anyConflict ws ks heard ds ≡ false → hear f n ws ks heard (token p s ∷ is) ≡ hear f n ws ks (heard ++ ds) is
+  takes : (ds : List ℕ) → literalsOf f n s ≡ accept ds → anyConflict ws ks heard ds ≡ false
+      → hear f n ws ks heard (token p s ∷ is) ≡ hear f n ws ks (heard ++ ds) is
   unfolding hear
   takes ds q a = rw (q, a, hear)
 
 module _ (f : Form) (n : ℕ) (ws ks : List ℕ) where
   -- what was heard stays among them
-  heard-stays : (is : List Item) (heard cs : List ℕ) → hear f n ws ks heard is ≡ accepted cs → (c : ℕ) → among c heard ≡ true → among c cs ≡ true
+  heard-stays : (is : List Item) (heard cs : List ℕ) → hear f n ws ks heard is ≡ accepted cs → (c : ℕ) → among c heard ≡ true
+      → among c cs ≡ true
   unfolding hear
   heard-stays [] heard cs e c a = sym (ap (among c) (accepted-same heard cs e)) ∙ a
   heard-stays (untagged p ∷ is) heard cs e c a = not-refused e
@@ -168,7 +176,8 @@ module _ (f : Form) (n : ℕ) (ws ks : List ℕ) where
   -- read again, where it is true and where tokens say the same
   pub heard-again :
       (m : ℕ) (vs js : List ℕ) → ((s : List ℕ) → literalsOf f m s ≡ literalsOf f n s) →
-      (is : List Item) (heard cs : List ℕ) → hear f n ws ks heard is ≡ accepted cs → ((c : ℕ) → among c cs ≡ true → isTrue (assigned vs) c ≡ true) →
+      (is : List Item) (heard cs : List ℕ) → hear f n ws ks heard is ≡ accepted cs
+      → ((c : ℕ) → among c cs ≡ true → isTrue (assigned vs) c ≡ true) →
       hear f m vs js heard is ≡ accepted cs
   unfolding hear
   heard-again m vs js l [] heard cs e t = e
@@ -190,7 +199,8 @@ unfolding held
 is-held n room (refused r) cs e = not-refused e
 is-held n room (accepted ds) cs e = pick (leb (wordsFor (lengthAfter n ds)) room) refl e
   where
-    pick : (b : Bool) → leb (wordsFor (lengthAfter n ds)) room ≡ b → cond b (accepted ds) (refused (refusal 12 (wordsFor (lengthAfter n ds)))) ≡ accepted cs → Held n room (accepted ds) cs
+    pick : (b : Bool) → leb (wordsFor (lengthAfter n ds)) room ≡ b
+        → cond b (accepted ds) (refused (refusal 12 (wordsFor (lengthAfter n ds)))) ≡ accepted cs → Held n room (accepted ds) cs
     pick true q h = let l = leb-true (wordsFor (lengthAfter n ds)) room q in record { heard = h; fits = rw (accepted-same ds cs h) at l }
     pick false q h = not-refused h
 

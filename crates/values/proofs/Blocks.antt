@@ -1,4 +1,5 @@
--- A block whose form is one string: white space, zeros and ones, white space. What is met in it is that string, or a line without `v`, and behind the string only white space stands.
+-- A block whose form is one string: white space, zeros and ones, white space. What is met in it is that string, or a line without
+-- `v`, and behind the string only white space stands.
 use Prim.Native.Nat.{ℕ, suc, _+_}
 use mathlib.Core.Path.{_≡_, refl, sym, ap, _∙_}
 use mathlib.Core.Bool.{Bool, true, false}
@@ -11,10 +12,9 @@ use lib.Seq.{drop-drop}
 use Rattle.definitions.specs.Bytes.{lf, letterX}
 use Rattle.definitions.specs.Values.{letterV, isWhite, isSolid, isBit, frontOf, behind, among, onlyBits, formOf, front, between, itemsFrom}
 use Rattle.definitions.specs.declared.Form.the-variants.{SignedNumbers, ZerosAndOnes, XTokens}
-use Rattle.values.specs.Steps.{line, word, spotOf, soughtOf, onFrom}
-use Rattle.values.specs.Strings.{textAt}
-use Rattle.values.proofs.Runs.{front-more, front-none}
-use Rattle.values.proofs.Spots.{lf-white, front-v, front-untagged, between-lf, between-white, between-solid}
+use Rattle.tokens.specs.Steps.{line, word, spotOf, soughtOf, textAt, onFrom}
+use Rattle.tokens.proofs.Runs.{front-more, front-none}
+use Rattle.tokens.proofs.Spots.{lf-white, front-v, front-untagged, between-lf, between-white, between-solid}
 
 -- ---- what stands behind a run
 module _ (t : ℕ → Bool) (b : ℕ) (s : List ℕ) where
@@ -87,9 +87,11 @@ no-token (b ∷ s) true q p h e = cases (eqb b letterV) refl (no-token s false (
     cases : (x : Bool) → eqb b letterV ≡ x → (soughtOf (itemsFrom between (q + 1) s) ≡ word p → ⊥) → ⊥
     cases true f more = more (rw (front-v q b s f) at e)
     cases false f more = let g : line q ≡ word p = rw (front-untagged q b s f) at e in let z : _≡_ {A = ℕ} 0 1 = cc in omega arith
-no-token (b ∷ s) false q p h e = cases (eqb b lf) refl (no-token s true (q + 1) p (white-more b s h)) (no-token s false (q + 1) p (white-more b s h))
+no-token (b ∷ s) false q p h e =
+    cases (eqb b lf) refl (no-token s true (q + 1) p (white-more b s h)) (no-token s false (q + 1) p (white-more b s h))
   where
-    cases : (x : Bool) → eqb b lf ≡ x → (soughtOf (itemsFrom front (q + 1) s) ≡ word p → ⊥) → (soughtOf (itemsFrom between (q + 1) s) ≡ word p → ⊥) → ⊥
+    cases : (x : Bool) → eqb b lf ≡ x → (soughtOf (itemsFrom front (q + 1) s) ≡ word p → ⊥)
+        → (soughtOf (itemsFrom between (q + 1) s) ≡ word p → ⊥) → ⊥
     cases true f opened more = opened (rw (between-lf q b s f) at e)
     cases false f opened more = more (rw (between-white q b s f (white-first b s h)) at e)
 
@@ -145,7 +147,8 @@ form-string b s e = cases (among letterX (b ∷ s)) (onlyBits s) refl refl
     cases false true f g = eqb-true n 0 g
     cases false false f g = let i : SignedNumbers ≡ ZerosAndOnes = rw (f, g) at e in let z : _≡_ {A = ℕ} 0 1 = cc in absurd (omega arith)
 
-block-bits : (block : List ℕ) → formOf block ≡ ZerosAndOnes → (place : ℕ) → soughtOf (itemsFrom front 0 block) ≡ word place → Bits (drop place block)
+block-bits : (block : List ℕ) → formOf block ≡ ZerosAndOnes → (place : ℕ) → soughtOf (itemsFrom front 0 block) ≡ word place
+    → Bits (drop place block)
 unfolding itemsFrom
 block-bits [] form place met = let z : _≡_ {A = ℕ} 0 1 = cc in absurd (omega arith)
 block-bits (b ∷ s) form place met = cases (eqb b letterV) refl
@@ -163,5 +166,6 @@ pub none-behind :
     (p : ℕ) → soughtOf (onFrom block (place + length (textAt block place))) ≡ word p → ⊥
 none-behind block form place met p =
     let n = length (textAt block place) in
-    let w : AllWhite (drop (place + n) block) = rw (drop-drop n place block) at (bits-end (drop place block) (block-bits block form place met)) in
+    let w : AllWhite (drop (place + n) block) =
+    rw (drop-drop n place block) at (bits-end (drop place block) (block-bits block form place met)) in
     no-token (drop (place + n) block) false (place + n) p w

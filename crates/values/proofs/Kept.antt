@@ -1,5 +1,6 @@
--- What a block of value lines leaves, where it is accepted: "each variable met is known, with its value; every other bit stays; the length is the greater of the kept one and one past each
--- variable met" (02, A1); "what was known stays known, with its value; a signed or x block read twice changes nothing more". Laws over the definitions.
+-- What a block of value lines leaves, where it is accepted: "each variable met is known, with its value; every other bit stays; the
+-- length is the greater of the kept one and one past each variable met" (02, A1); "what was known stays known, with its value; a
+-- signed or x block read twice changes nothing more". Laws over the definitions.
 use Prim.Native.Nat.{ℕ, _+_, _≤_}
 use mathlib.Core.Path.{_≡_, sym, ap, _∙_}
 use mathlib.Core.Logic.{_⊎_}
@@ -11,7 +12,8 @@ use Rattle.definitions.specs.Table.{accepted}
 use Rattle.definitions.specs.Values.{among, formOf, lengthAfter, valuing, newLength, valued, marked, valuesAfter, knownAfter}
 use Rattle.definitions.specs.declared.Form.the-variants.{SignedNumbers, XTokens}
 use Rattle.values.proofs.Rows.{at-least-kept, one-past, no-more, length-again}
-use Rattle.values.proofs.Leaves.{known-met, true-met, value-stays, mark-stays, known-kept, value-kept, values-again, marks-again, valuing-again}
+use Rattle.values.proofs.Leaves.{known-met, true-met, value-stays, mark-stays, known-kept, value-kept, values-again}
+use Rattle.values.proofs.Leaves.{marks-again, valuing-again}
 
 -- m is the greater of n and one past each variable of cs: none of them is greater, and every number of which that holds is at least m
 pub record Greatest (n : ℕ) (cs : List ℕ) (m : ℕ) : Type 0 where
@@ -29,7 +31,8 @@ pub record Unchanged (s : List ℕ) (m : ℕ) (vs js cs : List ℕ) : Type 0 whe
 same-number : (m n : ℕ) → accepted m ≡ accepted n → m ≡ n
 same-number m n e = cc
 
-unchanged : (s : List ℕ) (m : ℕ) (vs js cs : List ℕ) → valuing s m vs js ≡ accepted cs → lengthAfter m cs ≡ m → valued cs vs ≡ vs → marked cs js ≡ js → Unchanged s m vs js cs
+unchanged : (s : List ℕ) (m : ℕ) (vs js cs : List ℕ) → valuing s m vs js ≡ accepted cs → lengthAfter m cs ≡ m → valued cs vs ≡ vs
+    → marked cs js ≡ js → Unchanged s m vs js cs
 unfolding valuesAfter knownAfter
 unchanged s m vs js cs e l v k =
     record {
@@ -61,8 +64,11 @@ module _ (s : List ℕ) (n : ℕ) (ws ks cs : List ℕ) (e : valuing s n ws ks �
   met-known c a = rw (values-are, known-are) (known-met s n ws ks cs e c a, true-met s n ws ks cs e c a)
 
   -- "every other bit stays", in both rows
-  pub others-stay : (v : ℕ) → ((c : ℕ) → among c cs ≡ true → indexOf c ≡ v → ⊥) → (assigned ws′ v ≡ assigned ws v) × (assigned ks′ v ≡ assigned ks v)
-  others-stay v h = rw (values-are, known-are) (value-stays s n ws ks cs e v (λ c a q. absurd (h c a q)), mark-stays s n ws ks cs e v (λ c a q. absurd (h c a q)))
+  pub others-stay : (v : ℕ) → ((c : ℕ) → among c cs ≡ true → indexOf c ≡ v → ⊥)
+      → (assigned ws′ v ≡ assigned ws v) × (assigned ks′ v ≡ assigned ks v)
+  others-stay v h =
+      rw (values-are, known-are)
+      (value-stays s n ws ks cs e v (λ c a q. absurd (h c a q)), mark-stays s n ws ks cs e v (λ c a q. absurd (h c a q)))
 
   -- "what was known stays known, with its value"
   pub known-stays : (v : ℕ) → isKnown ws ks v ≡ true → (isKnown ws′ ks′ v ≡ true) × (assigned ws′ v ≡ assigned ws v)

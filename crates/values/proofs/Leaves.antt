@@ -14,8 +14,8 @@ use Rattle.definitions.specs.Table.{accepted}
 use Rattle.definitions.specs.Values.{among, formOf, itemsOf, literalsOf, hear, held, lengthAfter, wordsFor, valuing, valued, marked}
 use Rattle.definitions.specs.declared.Form.{Form}
 use Rattle.definitions.specs.declared.Form.the-variants.{SignedNumbers, XTokens}
-use Rattle.values.proofs.Lists.{length-valued, length-marked}
-use Rattle.values.proofs.Split.{never}
+use Rattle.bits.proofs.Lists.{length-valued, length-marked}
+use Rattle.heard.proofs.Split.{never}
 use Rattle.values.proofs.Rows.{Within, Saying, valued-written, marked-written, stays, met, written-again, one-past, length-again}
 use Rattle.values.proofs.Agreeing.{Agree, all-agree, heard-again, Held, is-held, held-so}
 
@@ -120,5 +120,6 @@ module _ (s : List ℕ) (n : ℕ) (ws ks cs : List ℕ) (e : valuing s n ws ks �
     valuing-again f =
         let room = min (length (valued cs ws)) (length (marked cs ks)) in
         let said = same-said (formOf s) f m n in
-        ap (held m room) (heard-again (formOf s) n ws ks m (valued cs ws) (marked cs ks) said (itemsOf s) [] cs (block-held .heard) true-met)
+        ap (held m room) (heard-again (formOf s) n ws ks m (valued cs ws) (marked cs ks) said (itemsOf s) [] cs
+        (block-held .heard) true-met)
         ∙ held-so m room cs fits-again

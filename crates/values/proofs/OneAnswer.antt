@@ -1,9 +1,11 @@
--- `read_values` has one possible answer for each input, and leaves one content in each of the two rows: two that its contract allows are equal. The block is not changed.
+-- `read_values` has one possible answer for each input, and leaves one content in each of the two rows: two that its contract
+-- allows are equal. The block is not changed.
 use Prim.Native.Nat.{ℕ}
 use mathlib.Core.Path.{_≡_, sym, ap, ap₂, _∙_}
 use native.Mathlib.Omega.{arith}
 use denote.Ref.{now}
-use Rattle.definitions.specs.Refusal.{Refusal, refusal}
+use Rattle.definitions.specs.Refusal.{refusal}
+use Rattle.definitions.specs.declared.Refusal.{Refusal}
 use Rattle.definitions.specs.Table.{Outcome, refused}
 use Rattle.values.specs.Said.{saidRead}
 use Rattle.values.specs.declared.ValuesRead.{ValuesRead}

@@ -1,4 +1,5 @@
--- What literals leave in one row of words, and the length they reach: a bit that they agree on is made that, every other bit stays, and making what stands there already changes nothing.
+-- What literals leave in one row of words, and the length they reach: a bit that they agree on is made that, every other bit stays,
+-- and making what stands there already changes nothing.
 use Prim.Native.Nat.{ℕ, _+_, _/_, _≤_, _<_, max}
 use mathlib.Core.Path.{_≡_, refl, sym, ap, _∙_}
 use mathlib.Core.Bool.{Bool, true, false, cond, not, _||_, or-true}
@@ -10,8 +11,8 @@ use lib.ListN.{length}
 use Rattle.definitions.specs.Literal.{indexOf, negated}
 use Rattle.definitions.specs.Meaning.{assigned}
 use Rattle.definitions.specs.Values.{among, lengthAfter, bitMade, valued, marked}
-use Rattle.values.proofs.Bits.{bit-made, length-made, made-again}
-use Rattle.values.proofs.Split.{never}
+use Rattle.bits.proofs.Bits.{bit-made, length-made, made-again}
+use Rattle.heard.proofs.Split.{never}
 
 -- ---- among
 
@@ -62,7 +63,8 @@ abbrev pub Saying : (ℕ → Bool) → ℕ → Bool → List ℕ → Type 0
 Saying f v b cs = (c : ℕ) → among c cs ≡ true → indexOf c ≡ v → f c ≡ b
 
 module _ (f : ℕ → Bool) (v : ℕ) (b : Bool) where
-  one-stays : (c : ℕ) (ws : List ℕ) → indexOf c / 64 < length ws → (indexOf c ≡ v → f c ≡ b) → assigned ws v ≡ b → assigned (bitMade (f c) (indexOf c) ws) v ≡ b
+  one-stays : (c : ℕ) (ws : List ℕ) → indexOf c / 64 < length ws → (indexOf c ≡ v → f c ≡ b) → assigned ws v ≡ b
+      → assigned (bitMade (f c) (indexOf c) ws) v ≡ b
   one-stays c ws l s h = bit-made (f c) (indexOf c) v ws l ∙ cases (eqb v (indexOf c)) refl
     where
       cases : (t : Bool) → eqb v (indexOf c) ≡ t → cond t (f c) (assigned ws v) ≡ b
@@ -84,13 +86,16 @@ module _ (f : ℕ → Bool) (v : ℕ) (b : Bool) where
   unfolding written
   stays [] ws l s h = h
   stays (c ∷ cs) ws l s h =
-      stays cs (bitMade (f c) (indexOf c) ws) (within-later c cs ws l) (saying-later c cs s) (one-stays c ws (l c (among-here c cs)) (s c (among-here c cs)) h)
+      stays cs (bitMade (f c) (indexOf c) ws) (within-later c cs ws l) (saying-later c cs s)
+      (one-stays c ws (l c (among-here c cs)) (s c (among-here c cs)) h)
 
   -- and is there where one does
-  pub met : (cs ws : List ℕ) → Within (length ws) cs → Saying f v b cs → (c : ℕ) → among c cs ≡ true → indexOf c ≡ v → assigned (written f cs ws) v ≡ b
+  pub met : (cs ws : List ℕ) → Within (length ws) cs → Saying f v b cs → (c : ℕ) → among c cs ≡ true → indexOf c ≡ v
+      → assigned (written f cs ws) v ≡ b
   unfolding written among
   met [] ws l s c m e = never (sym m)
-  met (d ∷ cs) ws l s c m e = cases (eqb d c) refl m (λ k. met cs (bitMade (f d) (indexOf d) ws) (within-later d cs ws l) (saying-later d cs s) c k e)
+  met (d ∷ cs) ws l s c m e =
+      cases (eqb d c) refl m (λ k. met cs (bitMade (f d) (indexOf d) ws) (within-later d cs ws l) (saying-later d cs s) c k e)
     where
       cases :
           (t : Bool) → eqb d c ≡ t → t || among c cs ≡ true →
@@ -134,4 +139,5 @@ no-more n [] m h g = h
 no-more n (c ∷ cs) m h g = no-more (max n (indexOf c + 1)) cs m (omega (arith, g c (among-here c cs))) (λ d k. g d (among-later d c cs k))
 
 pub length-again : (n : ℕ) (cs : List ℕ) → lengthAfter (lengthAfter n cs) cs ≡ lengthAfter n cs
-length-again n cs = omega (arith, at-least-kept (lengthAfter n cs) cs, no-more (lengthAfter n cs) cs (lengthAfter n cs) (omega arith) (one-past n cs))
+length-again n cs =
+    omega (arith, at-least-kept (lengthAfter n cs) cs, no-more (lengthAfter n cs) cs (lengthAfter n cs) (omega arith) (one-past n cs))

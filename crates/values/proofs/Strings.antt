@@ -1,4 +1,5 @@
--- One string of zeros and ones: its variables are all different, so that only the known words conflict with it; and in a block of that form nothing else is met but a line without `v`.
+-- One string of zeros and ones: its variables are all different, so that only the known words conflict with it; and in a block of
+-- that form nothing else is met but a line without `v`.
 use Prim.Native.Nat.{ℕ, suc, _+_, _-_, _≤_, _<_}
 use mathlib.Core.Path.{_≡_, refl, sym, ap, _∙_}
 use mathlib.Core.Bool.{Bool, true, false, not, _&&_, _||_}
@@ -13,8 +14,9 @@ use lib.Seq.{drop-cons, take-all, length-take-le}
 use Rattle.definitions.specs.Literal.{codeOf, indexOf, opposite}
 use Rattle.definitions.specs.Meaning.{isTrue, assigned, isKnown}
 use Rattle.definitions.specs.Values.{zeroDigit, among, appended, conflicts, anyConflict, valued, marked}
-use Rattle.values.proofs.Split.{opposite-index}
-use Rattle.values.proofs.Lists.{index-of-code, appended-next, valued-append, marked-append, length-valued, length-marked}
+use Rattle.heard.proofs.Split.{opposite-index}
+use Rattle.bits.proofs.Lists.{valued-append, marked-append, length-valued, length-marked}
+use Rattle.values.proofs.Appended.{index-of-code, appended-next}
 
 -- ---- the room that is left
 pub leb-less : (most n m : ℕ) → n ≤ most → leb m (most - n) ≡ leb (n + m) most
@@ -77,7 +79,8 @@ module _ (ws ks heard : List ℕ) (c : ℕ) (cs : List ℕ) where
   unfolding anyConflict conflicts
   conflict-found e = rw e
 
-  conflict-passed : otherwise ws ks c ≡ false → among (opposite c) heard ≡ false → anyConflict ws ks heard (c ∷ cs) ≡ anyConflict ws ks (heard ++ (c ∷ [])) cs
+  conflict-passed : otherwise ws ks c ≡ false → among (opposite c) heard ≡ false
+      → anyConflict ws ks heard (c ∷ cs) ≡ anyConflict ws ks (heard ++ (c ∷ [])) cs
   unfolding anyConflict conflicts
   conflict-passed e f = rw (e, f)
 
@@ -93,7 +96,8 @@ module _ (ws ks : List ℕ) (n : ℕ) (s : List ℕ) where
 
   pub clear-all : (i : ℕ) → Clear ws ks n s i → length s ≤ i → false ≡ anyConflict ws ks [] (appended n s)
   unfolding appended anyConflict
-  clear-all i p h = sym (p .left ∙ ap (λ (l : List ℕ). anyConflict ws ks (appended n (take i s)) (appended (n + i) l)) (drop-of-length-le s h))
+  clear-all i p h =
+      sym (p .left ∙ ap (λ (l : List ℕ). anyConflict ws ks (appended n (take i s)) (appended (n + i) l)) (drop-of-length-le s h))
 
   module _ (i : ℕ) (p : Clear ws ks n s i) (h : i < length s) (c : ℕ) (e : c ≡ codeOf (eqb (getD s i 0) zeroDigit) (n + i)) where
     next : anyConflict ws ks [] (appended n s) ≡ anyConflict ws ks (appended n (take i s)) (c ∷ appended (n + i + 1) (drop (suc i) s))
@@ -113,7 +117,8 @@ module _ (ws ks : List ℕ) (n : ℕ) (s : List ℕ) where
     none-opposite : among (opposite c) (appended n (take i s)) ≡ false
     none-opposite =
         let b = eqb (getD s i 0) zeroDigit in
-        among-appended n (take i s) (opposite c) (omega (arith, opposite-index c, ap indexOf e, index-of-code b (n + i), length-take-le i s (p .within)))
+        among-appended n (take i s) (opposite c)
+        (omega (arith, opposite-index c, ap indexOf e, index-of-code b (n + i), length-take-le i s (p .within)))
 
     pub clear-more : (r : Bool) → r ≡ otherwise ws ks c → r ≡ false → Clear ws ks n s (i + 1)
     clear-more r o t =
@@ -122,4 +127,9 @@ module _ (ws ks : List ℕ) (n : ℕ) (s : List ℕ) where
         let q : anyConflict ws ks (appended n (take i s)) (c ∷ l) ≡ anyConflict ws ks (appended n (take i s) ++ (c ∷ [])) l =
         conflict-passed ws ks (appended n (take i s)) c l f none-opposite in
         let r : l ≡ appended (n + (i + 1)) (drop (i + 1) s) = rw (add-one i) (ap (λ (m : ℕ). appended m (drop (suc i) s)) (omega arith)) in
-        record { within = omega arith; left = next ∙ q ∙ ap (λ (x : List ℕ). anyConflict ws ks x l) (sym heard-next) ∙ ap (anyConflict ws ks (appended n (take (i + 1) s))) r }
+        record {
+          within = omega arith;
+          left =
+              next ∙ q ∙ ap (λ (x : List ℕ). anyConflict ws ks x l) (sym heard-next)
+              ∙ ap (anyConflict ws ks (appended n (take (i + 1) s))) r;
+        }

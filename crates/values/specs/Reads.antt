@@ -1,4 +1,5 @@
--- What reading a block promises: one answer, and one later content of both rows. The definitions are those of definitions/specs/Values.antt.
+-- What reading a block promises: one answer, and one later content of both rows. The definitions are those of
+-- definitions/specs/Values.antt.
 use Prim.Native.Nat.{ℕ}
 use mathlib.Core.Path.{_≡_}
 use mathlib.Core.List.{List}

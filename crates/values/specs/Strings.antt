@@ -7,8 +7,8 @@ use lib.ListN.{length, take, drop}
 use Rattle.definitions.specs.Limits.{indexLimit}
 use Rattle.definitions.specs.Refusal.{refusal}
 use Rattle.definitions.specs.Table.{Outcome, refused, accepted}
-use Rattle.definitions.specs.Values.{isSolid, frontOf, appended, anyConflict}
-use Rattle.values.specs.Steps.{Found, nothing, line, word, soughtOf, onFrom}
+use Rattle.definitions.specs.Values.{appended, anyConflict}
+use Rattle.tokens.specs.Steps.{Found, nothing, line, word, soughtOf, textAt, endAt, onFrom}
 use Rattle.values.specs.declared.string.Checked.{Checked}
 use Rattle.values.specs.declared.string.Checked.the-variants as checked
 
@@ -18,16 +18,12 @@ behindOf place end nothing = checked.String place end
 behindOf place end (line p) = checked.Refused 20 p
 behindOf place end (word p) = checked.Refused 21 p
 
--- the bytes of the string at place
-abbrev pub textAt : List ℕ → ℕ → List ℕ
-textAt block place = frontOf isSolid (drop place block)
-
 -- 5, then 22, on top of the length n, the values ws and the known words ks; then what stands behind it
 unfoldable pub checkedAt : ℕ → List ℕ → List ℕ → List ℕ → ℕ → Checked
 checkedAt n ws ks block place =
     cond (leb (n + length (textAt block place)) (indexLimit + 1))
     (cond (anyConflict ws ks [] (appended n (textAt block place))) (checked.Refused 22 place)
-    (behindOf place (place + length (textAt block place)) (soughtOf (onFrom block (place + length (textAt block place))))))
+    (behindOf place (endAt block place) (soughtOf (onFrom block (endAt block place)))))
     (checked.Refused 5 place)
 
 -- the literals that a string in the block says, on top of the length n

@@ -1,15 +1,9 @@
-// A solver's value lines (02, A1), the Rust's `extend_from_vline`: a block of lines makes variables known, in two lent rows of words. Three walks: one finds the first 20, 21 or 5 and the length,
-// one the first conflict before it, and once all is known to be good the last sets bits. Assumes nothing.
-mod conflicts;
-mod form;
-mod items;
-mod settle;
+// A solver's value lines (02, A1), the Rust's `extend_from_vline`: a block of lines makes variables known, in two lent rows of words. Nothing is
+// set before the whole block is known to be good. Assumes nothing.
 mod string;
-mod survey;
-mod tokens;
-mod words;
 
 use definitions::Form;
+use definitions::Length;
 use string::Checked;
 ghost use mathlib.Core.Path.{_≡_};
 ghost use Prim.Native.Nat.{_<_, min};
@@ -17,7 +11,7 @@ ghost use lib.Dec.{leb};
 ghost use lib.ListN.{length};
 ghost use Rattle.definitions.specs.Values.{formOf, wordsFor};
 ghost use Rattle.definitions.specs.declared.Form.the-variants.{ZerosAndOnes};
-ghost use Rattle.values.specs.Said.{formBy};
+ghost use Rattle.tokens.specs.Said.{formBy};
 ghost use Rattle.values.specs.Reads.{ReadsValues};
 
 // A refusal with its place, or the new length.
@@ -50,7 +44,7 @@ fn has_words(needed: u64, values: &[u64], known: &[u64]) -> bool
     needed <= known.len() as u64
 }
 
-// Signed numbers or `x` tokens: the first walk, then the first conflict before the place where it stopped; then 12; then the bits.
+// Signed numbers or `x` tokens: 20, 21, 5 and 22, as `heard::hear` finds them; then 12; then the bits.
 fn read_literals(
     block: &[u8],
     named: bool,
@@ -62,22 +56,17 @@ fn read_literals(
     requires form { ⌜ formOf (now block) ≡ formBy named ⌝ }
     ensures { λ r. ⌜ ReadsValues (now (block .entry)) kept (now (values .entry)) (now (known .entry)) r (now (values .exit)) (now (known .exit)) ⌝ }
 {
-    let found = survey::survey(block, named, kept);
-    let end = found.place;
-    let conflict = conflicts::first_conflict(block, named, end, values, known);
-    let words = words_for(found.length);
-    let enough = has_words(words, values, known);
-    if conflict < end {
-        return refused(22, conflict as u64);
+    match heard::hear(block, named, kept, values, known) {
+        Length::Refused(found) => refused(found.number, found.place),
+        Length::Is(after) => {
+            let needed = words_for(after as u64);
+            if !has_words(needed, values, known) {
+                return refused(12, needed);
+            }
+            heard::settle(block, named, values, known);
+            ValuesRead::Length(after as u64)
+        }
     }
-    if found.number != 0 {
-        return refused(found.number, end as u64);
-    }
-    if !enough {
-        return refused(12, words);
-    }
-    settle::settle(block, named, values, known);
-    ValuesRead::Length(found.length)
 }
 
 // One string: 20, 5, 22 and 20 again, as `string::check` finds them; then 12; then the bits.
@@ -114,7 +103,7 @@ pub fn read_values(block: &[u8], length: u64, values: &mut [u64], known: &mut [u
     if block.len() == 0 {
         return refused(20, 0);
     }
-    match form::form_of(block) {
+    match tokens::form_of(block) {
         Form::ZerosAndOnes => read_string(block, length, values, known),
         Form::SignedNumbers => read_literals(block, false, length, values, known),
         Form::XTokens => read_literals(block, true, length, values, known),

@@ -1,12 +1,11 @@
 // One string of zeros and ones (02, A1), which appends at the length. Its variables are all different, so that only the known words can conflict with it. Assumes nothing.
-use crate::form::solid_run;
-use crate::items::Sought;
-use crate::items::seek;
-use crate::words::is_otherwise;
-use crate::words::make_true;
-use symbols::Lit;
-use symbols::LitRead;
-use symbols::Var;
+use bits::is_otherwise;
+use bits::make_true;
+use literals::Lit;
+use literals::LitRead;
+use literals::Var;
+use tokens::NextItem;
+use tokens::next_item;
 ghost use mathlib.Core.Path.{_≡_};
 ghost use mathlib.Core.List.{[]};
 ghost use Prim.Native.Nat.{_+_, _≤_, _<_};
@@ -16,7 +15,7 @@ ghost use Rattle.definitions.specs.Limits.{indexLimit};
 ghost use Rattle.definitions.specs.Literal.{codeOf};
 ghost use Rattle.definitions.specs.Values.{front, itemsFrom, formOf, hear, appended, anyConflict, valued, marked};
 ghost use Rattle.definitions.specs.declared.Form.the-variants.{ZerosAndOnes};
-ghost use Rattle.values.specs.Steps.{soughtOf, onFrom};
+ghost use Rattle.tokens.specs.Steps.{soughtOf, endAt, onFrom};
 ghost use Rattle.values.specs.Strings.{behindOf, checkedAt, saidChecked, Fitting};
 
 // 20, 5 or 22; no string; or where it stands.
@@ -82,30 +81,38 @@ pub(crate) fn append(text: &[u8], kept: u64, values: &mut [u64], known: &mut [u6
 
 // What stands behind the string: nothing, or a line without `v`. Another token does not, since the block has one string only.
 fn check_behind(block: &[u8], place: usize, end: usize) -> Checked
-    requires { ⌜ end ≤ length (now block) ⌝ }
     ensures { λ r. ⌜ r ≡ behindOf place end (soughtOf (onFrom (now (block .entry)) end)) ⌝ }
 {
-    match seek(block, end, false) {
-        Sought::End => Checked::String { place, end },
-        Sought::Untagged(line) => Checked::Refused {
+    match next_item(block, end, false) {
+        NextItem::End => Checked::String { place, end },
+        NextItem::Untagged(line) => Checked::Refused {
             number: 20,
             place: line,
         },
-        Sought::Token(token) => Checked::Refused {
+        NextItem::Token {
+            place: token,
+            end: _,
+        } => Checked::Refused {
             number: 21,
             place: token,
         },
     }
 }
 
-// The string at `place`: 5, 22, and what stands behind it.
-fn check_at(block: &[u8], place: usize, kept: u64, values: &[u64], known: &[u64]) -> Checked
-    requires { ⌜ place ≤ length (now block) ⌝ }
+// The string from `place` to `end`: 5, 22, and what stands behind it.
+fn check_at(
+    block: &[u8],
+    place: usize,
+    end: usize,
+    kept: u64,
+    values: &[u64],
+    known: &[u64],
+) -> Checked
+    requires within { ⌜ place ≤ length (now block) ⌝ }
+    requires ends { ⌜ end ≡ endAt (now block) place ⌝ }
     ensures { λ r. ⌜ r ≡ checkedAt kept (now (values .entry)) (now (known .entry)) (now (block .entry)) place ⌝ }
 {
-    let count = solid_run(&block[place..]);
-    let end = place + count;
-    if !fits(kept, count) {
+    if !fits(kept, end - place) {
         return Checked::Refused { number: 5, place };
     }
     if string_conflicts(&block[place..end], kept, values, known) {
@@ -120,12 +127,12 @@ pub(crate) fn check(block: &[u8], kept: u64, values: &[u64], known: &[u64]) -> C
     ensures { λ r. ⌜ saidChecked kept (now (block .entry)) r ≡ hear ZerosAndOnes kept (now (values .entry)) (now (known .entry)) [] (itemsFrom front 0 (now (block .entry))) ⌝ }
     ensures fits { λ r. ⌜ Fitting r kept (length (now (block .entry))) ⌝ }
 {
-    match seek(block, 0, true) {
-        Sought::End => Checked::Empty,
-        Sought::Untagged(line) => Checked::Refused {
+    match next_item(block, 0, true) {
+        NextItem::End => Checked::Empty,
+        NextItem::Untagged(line) => Checked::Refused {
             number: 20,
             place: line,
         },
-        Sought::Token(place) => check_at(block, place, kept, values, known),
+        NextItem::Token { place, end } => check_at(block, place, end, kept, values, known),
     }
 }

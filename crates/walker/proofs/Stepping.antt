@@ -2,42 +2,45 @@
 use Prim.Native.Nat.{ℕ, _+_, _≤_, _<_}
 use mathlib.Core.Path.{_≡_, refl, sym, ap, _∙_}
 use mathlib.Core.Bool.{Bool, true, false, cond}
-use mathlib.Core.List.{List, []}
+use mathlib.Core.List.{List}
 use native.Mathlib.Omega.{arith}
 use borrow.Author.Tests.{le-leb, lt-leb}
 use lib.Dec.{leb}
 use lib.ListN.{length, drop, length-drop, drop-of-length-le}
 use lib.IntN.{ℤ}
 use Rattle.definitions.specs.Limits.{fileLimit}
-use Rattle.definitions.specs.Refusal.{Refusal, refusal}
+use Rattle.definitions.specs.Refusal.{refusal}
+use Rattle.definitions.specs.declared.Refusal.{Refusal}
 use Rattle.definitions.specs.Walk.{Step, stop, bad, item}
-use Rattle.definitions.specs.Row.{Term, Line, comment, row, termsOf}
-use Rattle.definitions.specs.Table.{Outcome, refused, accepted, kindNumber}
-use Rattle.definitions.specs.Text.{statement, inFile}
-use Rattle.definitions.specs.Stepping.{Stepped, ended, stopped, stepped, steppedBy, stepAt, offsetAfter, termsFitted, termsBy, columnsRoom, termsAtStep}
+use Rattle.definitions.specs.Row.{Term, Line}
+use Rattle.definitions.specs.Table.{Outcome}
+use Rattle.definitions.specs.Text.{statement}
+use Rattle.definitions.specs.Stepping.{
+  Stepped,
+  ended,
+  stopped,
+  stepped,
+  steppedBy,
+  stepAt,
+  offsetAfter,
+  termsFitted,
+  termsBy,
+  columnsRoom,
+  termsAtStep,
+}
+use Rattle.definitions.specs.declared.Entry.{Entry}
+use Rattle.definitions.specs.declared.Length.{Length}
+use Rattle.definitions.specs.declared.Length.the-variants.{Refused, Is}
 use Rattle.definitions.specs.declared.Options.{Options}
 use Rattle.definitions.proofs.Statements.{statement-moves, statement-taken}
 use Rattle.definitions.proofs.SameAnswers.{Forward, step-forward}
-use Rattle.reader.specs.Brief.{LineBrief, lineBrief, briefLine, briefStep}
-use Rattle.reader.specs.Fill.{firstOfKind}
-use Rattle.reader.specs.FillsTerms.{FillsTerms}
-use Rattle.reader.specs.declared.terms.FilledTerms.{FilledTerms}
-use Rattle.reader.specs.declared.terms.FilledTerms.the-variants.{Refused, Terms}
-use Rattle.reader.proofs.Sums.{never}
-use Rattle.reader.proofs.Counts.{brief-stop, brief-bad, bad-within, terms-in-file}
-use Rattle.reader.proofs.FillLines.{kind-first, LineTold, line-told, statement-first}
-use Rattle.reader.proofs.FillTerms.{refusing, no-terms}
+use Rattle.definitions.proofs.Truths.{never}
+use Rattle.statements.specs.Brief.{entryAt, briefStep}
+use Rattle.statements.specs.FillsTerms.{FillsTerms}
+use Rattle.statements.proofs.Briefs.{brief-stop, brief-bad, LineTold, line-told, bad-within, terms-in-file, entry-in-file}
+use Rattle.statements.proofs.FillTerms.{refusing, no-terms}
+use Rattle.statements.proofs.Rows.{statement-first}
 use Rattle.walker.specs.Said.{briefStepped}
-
--- ---- the first of a line, at an offset of the file
-
--- what the code says of a line that was found at the offset
-abbrev placed : ℕ → LineBrief → LineBrief
-placed at x = lineBrief (x .kind) (firstOfKind (x .kind) (at + x .first) 0) (x .count) (x .bound)
-
-placed-line : (at : ℕ) (l : Line) → placed at (briefLine l) ≡ briefLine (inFile at l)
-placed-line at (comment f n b) = refl
-placed-line at (row r) = ap (λ (f : ℕ). lineBrief (kindNumber (r .kind)) f (length (r .terms)) (r .bound)) (kind-first (r .kind) (at + 0) 0)
 
 module _ (o : Options) (s : List ℕ) (at : ℕ) where
   -- 1: "file above the limit", place 0
@@ -67,22 +70,22 @@ module _ (o : Options) (s : List ℕ) (at : ℕ) where
         step-refused = ap briefStepped (sym (step-is (bad n k) (brief-bad _ n k e)))
 
       -- a line
-      module _ (k f n : ℕ) (b : ℤ) (m : ℕ) (e : item (lineBrief k f n b) m ≡ briefStep (statement o (drop at s))) where
-        told : LineTold (statement o (drop at s)) k f n b m
-        told = line-told _ k f n b m e
+      module _ (x : Entry) (m : ℕ) (e : item x m ≡ briefStep (statement o (drop at s))) where
+        told : LineTold (statement o (drop at s)) x m
+        told = line-told _ x m e
 
-        pub first-fits : at + f ≤ length s
+        pub first-fits : at + x .first ≤ length s
         first-fits =
-            omega (arith, ap (λ (x : LineBrief). x .first) (told .told), statement-first o (drop at s) (told .line) m (told .is), length-drop at s)
+            let f = statement-first o (drop at s) (told .line) m (told .is) in
+            omega (arith, ap (λ (y : Entry). y .first) (told .told), f, length-drop at s)
 
         pub next-fits : at + m ≤ length s
         next-fits = omega (arith, statement-taken o (drop at s) (told .line) m (told .is) .within, length-drop at s)
 
-        pub step-line : (g : ℕ) → g ≡ firstOfKind k (at + f) 0 → stepped (lineBrief k g n b) (at + m) ≡ briefStepped (stepAt o s at)
-        step-line g q =
-            ap (λ (h : ℕ). stepped (lineBrief k h n b) (at + m)) q
-            ∙ ap (λ (x : LineBrief). stepped (placed at x) (at + m)) (told .told)
-            ∙ ap (λ (x : LineBrief). stepped x (at + m)) (placed-line at (told .line))
+        pub step-line : stepped (entryAt at x) (at + m) ≡ briefStepped (stepAt o s at)
+        step-line =
+            ap (λ (y : Entry). stepped (entryAt at y) (at + m)) (told .told)
+            ∙ ap (λ (y : Entry). stepped y (at + m)) (entry-in-file at (told .line))
             ∙ ap briefStepped (sym (step-is (item (told .line) m) (told .is)))
 
 -- ---- what a brief answer says of a step
@@ -101,7 +104,7 @@ record SteppedIs (x : Stepped Line) (n : ℕ) : Type 0 where
   pub line : Line
   pub is : x ≡ stepped line n
 
-brief-stepped : (x : Stepped Line) (b : LineBrief) (n : ℕ) → stepped b n ≡ briefStepped x → SteppedIs x n
+brief-stepped : (x : Stepped Line) (b : Entry) (n : ℕ) → stepped b n ≡ briefStepped x → SteppedIs x n
 brief-stepped ended b n e = never (cc)
 brief-stepped (stopped r) b n e = never (cc)
 brief-stepped (stepped l m) b n e = let q : m ≡ n = cc in record { line = l; is = ap (stepped l) q }
@@ -115,20 +118,22 @@ module _ (o : Options) (s : List ℕ) (at : ℕ) (w : List ℤ) (l : List ℕ) w
   unfolding termsAtStep
   answers x e = ap (termsBy (columnsRoom w l)) e
 
-  pub fill-ended : ended ≡ briefStepped (stepAt o s at) → FillsTerms answer w l (Terms 0) w l
+  pub fill-ended : ended ≡ briefStepped (stepAt o s at) → FillsTerms answer w l (Is 0) w l
   fill-ended e = no-terms answer w l (answers ended (brief-ended _ e))
 
-  pub fill-stopped : (n p : ℕ) → stopped (refusal n p) ≡ briefStepped (stepAt o s at) → FillsTerms answer w l (Refused n p) w l
-  fill-stopped n p e = refusing answer w l n p (answers (stopped (refusal n p)) (brief-stopped _ (refusal n p) e))
+  pub fill-stopped : (r : Refusal) → stopped r ≡ briefStepped (stepAt o s at) → FillsTerms answer w l (Refused r) w l
+  fill-stopped r e = refusing answer w l r (answers (stopped r) (brief-stopped _ r e))
 
-  module _ (b : LineBrief) (n : ℕ) (e : stepped b n ≡ briefStepped (stepAt o s at)) where
+  module _ (b : Entry) (n : ℕ) (e : stepped b n ≡ briefStepped (stepAt o s at)) where
     pub fill-within : at ≤ length s
     fill-within = let i = brief-stepped _ b n e in let f = step-forward o s at (i .line) n (i .is) in omega (arith, f .rises, f .within)
 
     -- the statement at the front of the rest has the same terms
     same-terms : termsBy (columnsRoom w l) (steppedBy 0 (statement o (drop at s))) ≡ answer
     unfolding termsAtStep stepAt
-    same-terms = by (leb (length s) fileLimit) (statement o (drop at s)) (brief-stepped (stepAt o s at) b n e .line) (brief-stepped (stepAt o s at) b n e .is)
+    same-terms =
+        by (leb (length s) fileLimit) (statement o (drop at s)) (brief-stepped (stepAt o s at) b n e .line)
+        (brief-stepped (stepAt o s at) b n e .is)
       where
         by : (t : Bool) (x : Step Line) (y : Line) → cond t (steppedBy at x) (stopped (refusal 1 0)) ≡ stepped y n
             → termsBy (columnsRoom w l) (steppedBy 0 x) ≡ termsBy (columnsRoom w l) (cond t (steppedBy at x) (stopped (refusal 1 0)))
@@ -137,7 +142,8 @@ module _ (o : Options) (s : List ℕ) (at : ℕ) (w : List ℤ) (l : List ℕ) w
         by true (bad i k) y q = never (cc)
         by true (item z m) y q = ap (termsFitted (columnsRoom w l)) (terms-in-file 0 z ∙ sym (terms-in-file at z))
 
-    pub fill-line : (r : FilledTerms) (w' : List ℤ) (l' : List ℕ) → FillsTerms (termsBy (columnsRoom w l) (steppedBy 0 (statement o (drop at s)))) w l r w' l'
+    pub fill-line : (r : Length) (w' : List ℤ) (l' : List ℕ)
+        → FillsTerms (termsBy (columnsRoom w l) (steppedBy 0 (statement o (drop at s)))) w l r w' l'
         → FillsTerms answer w l r w' l'
     fill-line r w' l' f = rw same-terms at f
 
@@ -148,5 +154,5 @@ brief-offset (stopped r) at = refl
 brief-offset (stepped l n) at = refl
 
 -- a line that is told takes the offset forward, within the file
-pub told-forward : (o : Options) (s : List ℕ) (at : ℕ) (b : LineBrief) (n : ℕ) → stepped b n ≡ briefStepped (stepAt o s at) → Forward o s at n
+pub told-forward : (o : Options) (s : List ℕ) (at : ℕ) (b : Entry) (n : ℕ) → stepped b n ≡ briefStepped (stepAt o s at) → Forward o s at n
 told-forward o s at b n e = let i = brief-stepped (stepAt o s at) b n e in step-forward o s at (i .line) n (i .is)

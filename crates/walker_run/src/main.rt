@@ -1,12 +1,14 @@
 // Runs the walker's own functions on four small files: a walker is made, looked ahead with, stepped twice, asked where it stands, moved, and its statement's terms are filled. Each function with a local
 // that holds the file is proved by a walk of its own, so there are three, and each does nothing but call; all else is covered. tests/vectors/walker_stdout.py makes stdout. Assumes nothing but what libc
 // says of itself.
+use definitions::Entry;
+use definitions::Length;
 use definitions::Options;
-use reader::FilledTerms;
+use definitions::Refusal;
 use walker::Stepped;
 ghost use mathlib.Core.Path.{_≡_};
 ghost use Rattle.definitions.specs.Stepping.{stepAt, termsAtStep};
-ghost use Rattle.reader.specs.FillsTerms.{FillsTerms};
+ghost use Rattle.statements.specs.FillsTerms.{FillsTerms};
 ghost use Rattle.walker.specs.Said.{saidStepped, briefStepped};
 ghost use Rattle.walker_run.specs.Stands.{standsAfter};
 
@@ -22,10 +24,10 @@ struct Walked {
 fn walk_two(file: &[u8], options: Options) -> Walked
     ensures { λ r. ⌜ (saidStepped (r .first) ≡ briefStepped (stepAt options (now (file .entry)) 0)) × (saidStepped (r .second) ≡ briefStepped (stepAt options (now (file .entry)) (standsAfter options (now (file .entry)) 1))) × (r .at ≡ standsAfter options (now (file .entry)) 2) ⌝ }
 {
-    let mut w = walker::new(file, options);
-    let first = walker::next(&mut w);
-    let second = walker::next(&mut w);
-    let at = walker::at(w);
+    let mut w = held::new(file, options);
+    let first = held::next(&mut w);
+    let second = held::next(&mut w);
+    let at = held::at(w);
     Walked { first, second, at }
 }
 
@@ -33,7 +35,7 @@ fn walk_two(file: &[u8], options: Options) -> Walked
 fn look_ahead(file: &[u8], options: Options, at: usize) -> Stepped
     ensures { λ r. ⌜ saidStepped r ≡ briefStepped (stepAt options (now (file .entry)) at) ⌝ }
 {
-    walker::step(walker::moved(walker::new(file, options), at))
+    held::step(held::moved(held::new(file, options), at))
 }
 
 // The terms of the statement at an offset.
@@ -43,11 +45,11 @@ fn terms_at(
     at: usize,
     weights: &mut [i64],
     literals: &mut [u32],
-) -> FilledTerms
+) -> Length
     ensures { λ r. ⌜ FillsTerms (termsAtStep options (now (file .entry)) at (now (weights .entry)) (now (literals .entry))) (now (weights .entry)) (now (literals .entry)) r (now (weights .exit)) (now (literals .exit)) ⌝ }
 {
-    let w = walker::moved(walker::new(file, options), at);
-    walker::fill(w, weights, literals)
+    let w = held::moved(held::new(file, options), at);
+    held::fill(w, weights, literals)
 }
 
 // ---- what is written
@@ -78,24 +80,24 @@ fn of_code(c: u32) -> usize {
     c as usize
 }
 
-fn show_line(kind: u8, first: usize, count: usize, bound: i64, next: usize) {
+fn show_line(entry: Entry, next: usize) {
     say(b"kind");
-    say_count(of_byte(kind));
+    say_count(of_byte(entry.kind));
     say(b" first");
-    say_count(first);
+    say_count(entry.first);
     say(b" count");
-    say_count(count);
+    say_count(entry.count);
     say(b" bound");
-    say_number(bound);
+    say_number(entry.bound);
     say(b" next");
     say_count(next);
 }
 
-fn show_refusal(number: u8, place: usize) {
+fn show_refusal(refusal: Refusal) {
     say(b"refused");
-    say_count(of_byte(number));
-    say(b" at");
-    say_count(place);
+    say_count(of_byte(refusal.number));
+    say(b" at ");
+    io::print_decimal(libc::STDOUT_FILENO, refusal.place);
 }
 
 fn show_step(s: Stepped) {
@@ -103,28 +105,22 @@ fn show_step(s: Stepped) {
         Stepped::End => {
             say(b"end");
         }
-        Stepped::Refused { number, place } => {
-            show_refusal(number, place);
+        Stepped::Refused(refusal) => {
+            show_refusal(refusal);
         }
-        Stepped::Line {
-            kind,
-            first,
-            count,
-            bound,
-            next,
-        } => {
-            show_line(kind, first, count, bound, next);
+        Stepped::Line { entry, next } => {
+            show_line(entry, next);
         }
     }
     say(b"\n");
 }
 
-fn show_terms(filled: FilledTerms) {
+fn show_terms(filled: Length) {
     match filled {
-        FilledTerms::Refused { number, place } => {
-            show_refusal(number, place);
+        Length::Refused(refusal) => {
+            show_refusal(refusal);
         }
-        FilledTerms::Terms(n) => {
+        Length::Is(n) => {
             say(b"terms");
             say_count(n);
         }

@@ -11,9 +11,11 @@ use Rattle.definitions.specs.Refusal.{refusal, needed}
 use Rattle.definitions.specs.Table.{Table, Outcome, refused, accepted}
 use Rattle.definitions.specs.Write.{Item, textOf, writing, outputAfter}
 use Rattle.definitions.specs.declared.Mode.{Mode}
-use Rattle.writer.specs.declared.Written.the-variants.{Refused, Wrote}
-use Rattle.writer.specs.Walks.{itemsFor, linesOf, extentsOf, extentBy, extentFor, linesBy, linesFor, LinesReady}
-use Rattle.writer.specs.declared.rows.Extent.{Extent}
+use Rattle.definitions.specs.declared.Refusal.{Refusal}
+use Rattle.definitions.specs.declared.Length.the-variants.{Refused, Is}
+use Rattle.measures.specs.Walks.{itemsFor, linesOf, extentsOf, extentBy, extentFor}
+use Rattle.writer.specs.Walks.{linesBy, linesFor, LinesReady}
+use Rattle.measures.specs.declared.rows.Extent.{Extent}
 use Rattle.writer.specs.Writes.{Writes}
 
 -- what each outcome of the rows says
@@ -22,14 +24,14 @@ module _ (m : Mode) (t : Table) (text o : List ℕ) where
   unfolding writing
   written-as os e = ap (textOf m (length o)) e
 
-  pub writes-refused : (n p : ℕ) → refused (refusal n p) ≡ extentFor m t text → Writes m t text o (Refused n p) o
+  pub writes-refused : (x : Refusal) → refused x ≡ extentFor m t text → Writes m t text o (Refused x) o
   unfolding outputAfter
-  writes-refused n p e = by (itemsFor m t text) refl e
+  writes-refused x e = by (itemsFor m t text) refl e
     where
-      by : (os : Outcome (List Item)) → itemsFor m t text ≡ os → refused (refusal n p) ≡ extentBy m os → Writes m t text o (Refused n p) o
+      by : (os : Outcome (List Item)) → itemsFor m t text ≡ os → refused x ≡ extentBy m os → Writes m t text o (Refused x) o
       by (refused r) q e =
           let w = written-as (refused r) q in
-          let k : refusal n p ≡ r = cc in
+          let k : x ≡ r = cc in
           record { answer = rw w (rw k); after = rw w }
       by (accepted is) q e = let z : _≡_ {A = ℕ} 0 1 = cc in absurd (omega arith)
 
@@ -55,11 +57,12 @@ module _ (m : Mode) (t : Table) (text o : List ℕ) where
     abbrev lines : List ℕ
     lines = linesOf m (all-accepted .items)
 
-    pub writes-full : length o < n → Writes m t text o (Refused 14 n) o
+    pub writes-full : length o < n → Writes m t text o (Refused (refusal 14 n)) o
     unfolding outputAfter needed
     writes-full h =
         let long : length o < length lines = omega (arith, all-accepted .count) in
-        let w : writing m t text (length o) ≡ refused (refusal 14 (needed (length lines))) = written-as (accepted (all-accepted .items)) (all-accepted .are) ∙ rw (lt-leb (length lines) (length o) long) in
+        let w : writing m t text (length o) ≡ refused (refusal 14 (needed (length lines))) =
+        written-as (accepted (all-accepted .items)) (all-accepted .are) ∙ rw (lt-leb (length lines) (length o) long) in
         record { answer = rw w (ap (λ (x : ℕ). refused (refusal 14 x)) (all-accepted .count)); after = rw w }
 
     module _ (h : n ≤ length o) (g : length o < neededLimit) where
@@ -70,8 +73,13 @@ module _ (m : Mode) (t : Table) (text o : List ℕ) where
       pub writes-ready : LinesReady m t text o
       writes-ready = record { items = all-accepted .items; are = all-accepted .are; room = omega (arith, length-is) }
 
-      pub writes-done : (o′ : List ℕ) → o′ ≡ over (linesFor m t text) o → Writes m t text o (Wrote n) o′
+      pub writes-done : (o′ : List ℕ) → o′ ≡ over (linesFor m t text) o → Writes m t text o (Is n) o′
       unfolding outputAfter
       writes-done o′ q =
-          let w : writing m t text (length o) ≡ accepted lines = written-as (accepted (all-accepted .items)) (all-accepted .are) ∙ rw (le-leb (length lines) (length o) (omega (arith, length-is))) in
-          record { answer = rw w (ap accepted length-is); after = rw w (q ∙ ap (λ (os : Outcome (List Item)). over (linesBy m os) o) (all-accepted .are)) }
+          let w : writing m t text (length o) ≡ accepted lines =
+          written-as (accepted (all-accepted .items)) (all-accepted .are)
+          ∙ rw (le-leb (length lines) (length o) (omega (arith, length-is))) in
+          record {
+            answer = rw w (ap accepted length-is);
+            after = rw w (q ∙ ap (λ (os : Outcome (List Item)). over (linesBy m os) o) (all-accepted .are));
+          }

@@ -1,10 +1,4 @@
-pub mod Puts
-pub mod Terms
-pub mod Tallies
 pub mod Ready
-pub mod Kinds
-pub mod Bounds
-pub mod Rows
 pub mod Entries
 pub mod Walks
 pub mod Writes

@@ -10,18 +10,18 @@ use Rattle.definitions.specs.Row.{Term}
 use Rattle.definitions.specs.Refusal.{refuse}
 use Rattle.definitions.specs.Write.{isAccepted, weighs, numbered, bounded, rowText, printed}
 use Rattle.definitions.specs.declared.Mode.{Mode}
-use Rattle.writer.specs.declared.kinds.Kind.{Kind}
-use Rattle.writer.specs.declared.kinds.Shape.{Shape}
-use Rattle.writer.specs.declared.sums.Sums.{Sums}
-use Rattle.writer.specs.declared.terms.Style.{Style}
-use Rattle.writer.specs.declared.terms.Shown.{Shown}
-use Rattle.writer.specs.declared.sums.Ended.{Ended}
-use Rattle.writer.specs.Puts.{Puts}
-use Rattle.writer.specs.Terms.{ownTerms, termWords, spacedBy, termsText}
-use Rattle.writer.specs.Tallies.{noSums, summed}
-use Rattle.writer.specs.Kinds.{isObjective}
-use Rattle.writer.specs.Bounds.{printedBound}
-use Rattle.writer.specs.Rows.{rowOn}
+use Rattle.printed.specs.declared.kinds.Kind.{Kind}
+use Rattle.printed.specs.declared.kinds.Shape.{Shape}
+use Rattle.printed.specs.declared.sums.Sums.{Sums}
+use Rattle.printed.specs.declared.terms.Style.{Style}
+use Rattle.printed.specs.declared.terms.Shown.{Shown}
+use Rattle.writer.specs.declared.terms.Ended.{Ended}
+use Rattle.definitions.proofs.Puts.{Puts}
+use Rattle.printed.specs.Terms.{ownTerms, termWords, spacedBy, termsText}
+use Rattle.printed.specs.Sums.{noSums, summed}
+use Rattle.printed.specs.Kinds.{isObjective}
+use Rattle.printed.specs.Bounds.{printedBound}
+use Rattle.printed.specs.Rows.{rowOn}
 
 -- one term
 pub record HasRoom (s : Style) (x : Shown) (at : ℕ) (o : List ℕ) : Type 0 where
@@ -41,7 +41,6 @@ pub record PutsTerms (s : Style) (ts : List Term) (at : ℕ) (o : List ℕ) (r :
 
 -- the bound of a row, and its line; an objective or a constraint
 pub record BoundReady (k : Kind) (b : ℤ) (s : Sums) : Type 0 where
-  pub falls : s .fall ≤ s .total
   pub found : printedBound k b (s .total) (s .fall) ≡ refuse 8 → ⊥
 
 pub record RowReady (s : Shape) (ws : List ℤ) (cs : List ℕ) (m : Mode) (at : ℕ) (o : List ℕ) : Type 0 where

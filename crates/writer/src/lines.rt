@@ -1,16 +1,14 @@
 // The lines of rows that the first walk has accepted, put into an output that has room for them; spaces as in the Rust. Assumes nothing.
-use crate::bounds::Bound;
-use crate::bounds::printed_bound;
-use crate::kinds::Kind;
-use crate::kinds::Shape;
-use crate::kinds::is_equal;
-use crate::kinds::is_objective;
-use crate::kinds::style_of;
 use crate::output::put_number;
 use crate::output::put_text;
-use crate::sums::Sums;
-use crate::sums::put_terms;
+use crate::terms::put_terms;
 use definitions::Mode;
+use printed::Bound;
+use printed::Kind;
+use printed::Shape;
+use printed::Sums;
+use printed::printed_bound;
+use printed::style_of;
 ghost use mathlib.Core.Path.{_≡_};
 ghost use mathlib.Core.Bool.{true, false};
 ghost use mathlib.Core.List.{_++_};
@@ -18,9 +16,10 @@ ghost use Prim.Native.Nat.{_+_, _≤_};
 ghost use lib.ListN.{length};
 ghost use Rattle.definitions.specs.Refusal.{accept};
 ghost use Rattle.definitions.specs.Write.{closed, remarkText, offsetText, comparisonText, rowText, printed};
-ghost use Rattle.writer.specs.Puts.{Puts};
-ghost use Rattle.writer.specs.Bounds.{printedBound};
-ghost use Rattle.writer.specs.Rows.{rowOn, operatorText};
+ghost use Rattle.definitions.proofs.Puts.{Puts};
+ghost use Rattle.printed.specs.Kinds.{isEqual};
+ghost use Rattle.printed.specs.Bounds.{printedBound};
+ghost use Rattle.printed.specs.Rows.{rowOn, operatorText};
 ghost use Rattle.writer.specs.Ready.{BoundReady, RowReady, LineReady};
 
 // The bound that the first walk has found within 64 bits.
@@ -44,6 +43,17 @@ pub(crate) fn write_comment(text: &[u8], out: &mut [u8], at: usize) -> usize
     let end = put_text(text, out, at + 2);
     out[end] = b'\n';
     end + 1
+}
+
+fn is_equal(kind: Kind) -> bool
+    ensures { λ r. ⌜ r ≡ isEqual kind ⌝ }
+{
+    match kind {
+        Kind::AtLeast => false,
+        Kind::AtMost => false,
+        Kind::Equal => true,
+        Kind::Objective => false,
+    }
 }
 
 fn put_operator(kind: Kind, out: &mut [u8], at: usize) -> usize
@@ -147,8 +157,8 @@ pub(crate) fn write_row(
     requires { ⌜ RowReady shape (now weights) (now literals) mode at (now out) ⌝ }
     ensures { λ r. ⌜ Puts (rowText (mode .first) (printed (mode .plain) (rowOn shape (now (weights .entry)) (now (literals .entry))))) at (now (out .entry)) r (now (out .exit)) ⌝ }
 {
-    let kind = shape.kind;
-    if is_objective(kind) {
+    let style = style_of(shape, mode);
+    if style.apart {
         return write_objective(shape, weights, literals, mode, out, at);
     }
     write_constraint(shape, weights, literals, mode, out, at)

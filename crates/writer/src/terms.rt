@@ -1,86 +1,23 @@
-// The terms of a row as they are printed: weight, literal and file number of each, the length of its text, and the text itself. Assumes nothing.
+// The text of a row's terms, each with its space, and their sums. Assumes nothing.
 use crate::output::put_count;
 use crate::output::put_number;
-use symbols::FileNumber;
-use symbols::Lit;
-use symbols::Var;
-ghost use mathlib.Core.Path.{_≡_};
-ghost use mathlib.Core.Bool.{true};
+use literals::FileNumber;
+use literals::FileNumberRead;
+use printed::Shown;
+use printed::Style;
+use printed::Sums;
+use printed::show_term;
+use printed::with_weight;
 ghost use Prim.Native.Nat.{_+_, _≤_};
 ghost use lib.ListN.{length};
-ghost use lib.Signed.{nonNeg};
-ghost use Rattle.definitions.specs.Literal.{negated};
-ghost use Rattle.definitions.specs.Row.{term};
-ghost use Rattle.writer.specs.Puts.{Puts};
-ghost use Rattle.writer.specs.Terms.{flippedCode, Shows, literalWords, termWords, spacedBy};
+ghost use Rattle.definitions.proofs.Puts.{Puts};
+ghost use Rattle.printed.specs.Terms.{literalWords, termWords, spacedBy, ownTerms};
+ghost use Rattle.writer.specs.Ready.{HasRoom, TermsReady, PutsTerms};
 
-// How the terms of a row are written.
-pub(crate) struct Style {
-    // "Clause and cardinality rows have every weight 1, the weight column is not looked at."
-    pub unit: bool,
-    // "An 'at most' row is written with each literal negated."
-    pub flip: bool,
-    // No-negated mode.
-    pub plain: bool,
-    // A space before each term, as in an objective, and not behind it.
-    pub apart: bool,
-    pub first: u32,
-}
-
-// A term as it is printed: its weight, whether `~` stands before the variable, and the variable; and whether the bound falls by the weight.
-pub(crate) struct Shown {
-    pub weight: i64,
-    pub tilde: bool,
-    pub var: Var,
-    pub falls: bool,
-}
-
-fn is_negated(flip: bool, l: Lit) -> bool
-    ensures { λ r. ⌜ r ≡ negated (flippedCode flip (l .0)) ⌝ }
-{
-    if flip {
-        return l.negated().is_neg();
-    }
-    l.is_neg()
-}
-
-// "In no-negated mode a negated literal of weight w is written -w on the plain variable."
-pub(crate) fn show_term(style: Style, w: i64, l: Lit) -> Shown
-    requires { ⌜ nonNeg w ≡ true ⌝ }
-    ensures { λ r. ⌜ Shows style (term w (l .0)) r ⌝ }
-{
-    let v = l.var();
-    if is_negated(style.flip, l) {
-        if style.plain {
-            return Shown {
-                weight: -w,
-                tilde: false,
-                var: v,
-                falls: true,
-            };
-        }
-        return Shown {
-            weight: w,
-            tilde: true,
-            var: v,
-            falls: false,
-        };
-    }
-    Shown {
-        weight: w,
-        tilde: false,
-        var: v,
-        falls: false,
-    }
-}
-
-// The length of a term's text, with the space before or behind it.
-pub(crate) fn term_length(t: Shown, n: FileNumber) -> usize
-    ensures { λ r. ⌜ r ≡ length (termWords t (n .0)) + 1 ⌝ }
-{
-    let w = t.weight;
-    let digits = numbers::number_length(w) + numbers::count_length(n.number() as u64);
-    if t.tilde { digits + 4 } else { digits + 3 }
+// Where the text of a row's terms ends, and their sums.
+pub(crate) struct Ended {
+    pub at: usize,
+    pub sums: Sums,
 }
 
 // What stands behind the weight: a space and the literal.
@@ -109,7 +46,7 @@ fn put_term(t: Shown, n: FileNumber, out: &mut [u8], at: usize) -> usize
 }
 
 // A term with the space before or behind it.
-pub(crate) fn put_spaced(apart: bool, t: Shown, n: FileNumber, out: &mut [u8], at: usize) -> usize
+fn put_spaced(apart: bool, t: Shown, n: FileNumber, out: &mut [u8], at: usize) -> usize
     requires { ⌜ at + (length (termWords t (n .0)) + 1) ≤ length (now out) ⌝ }
     ensures { λ r. ⌜ Puts (spacedBy apart (termWords t (n .0))) at (now (out .entry)) r (now (out .exit)) ⌝ }
 {
@@ -122,4 +59,38 @@ pub(crate) fn put_spaced(apart: bool, t: Shown, n: FileNumber, out: &mut [u8], a
     }
     out[end] = b' ';
     end + 1
+}
+
+fn put_shown(style: Style, x: Shown, out: &mut [u8], at: usize) -> usize
+    requires { ⌜ HasRoom style x at (now out) ⌝ }
+    ensures { λ r. ⌜ Puts (spacedBy (style .apart) (termWords x (x .var .0 + style .first))) at (now (out .entry)) r (now (out .exit)) ⌝ }
+{
+    let v = x.var;
+    match FileNumber::of(v, style.first) {
+        FileNumberRead::Is(n) => put_spaced(style.apart, x, n, out, at),
+        FileNumberRead::OutOfRange => at,
+    }
+}
+
+// The text of all terms of a row that the first walk has accepted.
+pub(crate) fn put_terms(
+    style: Style,
+    weights: &[i64],
+    literals: &[u32],
+    out: &mut [u8],
+    at: usize,
+) -> Ended
+    requires { ⌜ TermsReady style (now weights) (now literals) at (now out) ⌝ }
+    ensures { λ r. ⌜ PutsTerms style (ownTerms (style .unit) (now (weights .entry)) (now (literals .entry))) at (now (out .entry)) r (now (out .exit)) ⌝ }
+{
+    let mut end = at;
+    let mut sums = Sums { total: 0, fall: 0 };
+    let mut i: usize = 0;
+    while i < literals.len() {
+        let x = show_term(style, weights[i], literals[i]);
+        sums = with_weight(sums, x.own, x.falls);
+        end = put_shown(style, x, out, end);
+        i += 1;
+    }
+    Ended { at: end, sums }
 }

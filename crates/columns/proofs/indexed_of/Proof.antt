@@ -1,5 +1,5 @@
--- `columns::indexed_of` meets its contract. The loop's invariant: what is left of the codes decides. The measure is what is left of the length.
--- Assumes nothing.
+-- `columns::indexed_of` meets its contract. The loop's invariant: what is left of the codes decides. The measure is what is left of
+-- the length. Assumes nothing.
 use mathlib.Core.Path.{_≡_, refl, sym, ap, _∙_}
 use Prim.Native.Nat.{_≤_, _-_}
 use native.Mathlib.Omega.{arith}
@@ -41,7 +41,8 @@ in-limit-requires c κs = search needs
 tested :
     (c : tie.After-in-limit Inv-loop μ-loop) →
     c .in-limit .result ≡
-    isIndex (indexOf (getD (now (c .before .before .before .before .before .before .before .args .literals)) (c .before .before .before .before .before .loop .i) 0))
+    isIndex (indexOf (getD (now (c .before .before .before .before .before .before .before .args .literals))
+    (c .before .before .before .before .before .loop .i) 0))
 tested c = c .in-limit .ensures ∙ ap isIndex (c .before .var .ensures ∙ ap indexOf (c .before .before .of-code .ensures))
 
 returns : tie.Need-returns Inv-loop μ-loop

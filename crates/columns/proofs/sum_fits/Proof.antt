@@ -1,5 +1,5 @@
--- `columns::sum_fits` meets its contract: the limit less y is in 64 signed bits, and x against it says whether the sum is (proofs/Sums.antt).
--- Assumes nothing.
+-- `columns::sum_fits` meets its contract: the limit less y is in 64 signed bits, and x against it says whether the sum is
+-- (proofs/Sums.antt). Assumes nothing.
 use mathlib.Core.Path.{_≡_}
 use mathlib.Core.Bool.{true, false}
 use lib.IntN.{pos, _-ℤ_}
@@ -30,7 +30,8 @@ sub-result c = rw (toZ-ofZ (c .before .fits .y)) (low c)
 returns : tie.Need-returns
 returns c =
     let s = c .before in
-    simp (toZ-ofZ (s .fits .x), toZ-ofZ (s .fits .y), toZ-ofZ (low c)) (low-test (s .args .x) (s .args .y) (s .fits .x) (s .fits .y) (below c))
+    simp (toZ-ofZ (s .fits .x), toZ-ofZ (s .fits .y), toZ-ofZ (low c))
+    (low-test (s .args .x) (s .args .y) (s .fits .x) (s .fits .y) (below c))
 
 sub-result-2 : tie.Need-sub-result-2
 sub-result-2 c = rw (toZ-ofZ (c .before .fits .y)) (high c)
@@ -38,7 +39,8 @@ sub-result-2 c = rw (toZ-ofZ (c .before .fits .y)) (high c)
 returns-2 : tie.Need-returns-2
 returns-2 c =
     let s = c .before in
-    simp (toZ-ofZ (s .fits .x), toZ-ofZ (s .fits .y), toZ-ofZ (high c)) (high-test (s .args .x) (s .args .y) (s .fits .x) (s .fits .y) (above c))
+    simp (toZ-ofZ (s .fits .x), toZ-ofZ (s .fits .y), toZ-ofZ (high c))
+    (high-test (s .args .x) (s .args .y) (s .fits .x) (s .fits .y) (above c))
 
 pub sum-fits-spec : {M : Type 1} → statement M
 sum-fits-spec = tie.close (tie.spec sub-result returns sub-result-2 returns-2)

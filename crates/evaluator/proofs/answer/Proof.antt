@@ -1,4 +1,4 @@
--- `evaluator::answer` meets its contract: the sum is the definition's, and with them the answer is (proofs/Answers.antt). Assumes nothing.
+-- `evaluator::answer` meets its contract: the sum is the definition's, and with it the answer is (proofs/Answers.antt). Assumes nothing.
 use mathlib.Core.Path.{sym, _∙_}
 use mathlib.Core.Logic.{inl, inr, ⊎-elim}
 use native.Mathlib.Omega.{arith}
@@ -31,9 +31,11 @@ returns c =
     let s = k .before .before .before in
     let f : SFits w64 (z .result) = record { sfits = z .ok } in
     rw (toZ-ofZ f)
-    (constraint-found (readKind (s .args .kind)) (s .args .bound) (termsOn (now (s .args .weights)) (now (s .args .literals))) (assigned (now (s .args .words)))
+    (constraint-found (readKind (s .args .kind)) (s .args .bound) (termsOn (now (s .args .weights)) (now (s .args .literals)))
+    (assigned (now (s .args .words)))
     (z .result) (s .args .ones) (s .args .row) (z .ensures)
-    (c .holds .result) (c .holds .ensures ∙ simp (toZ-ofZ f, toZ-ofZ (s .fits .bound))) (kind-constraint (s .args .kind) (omega arith) (omega arith)))
+    (c .holds .result) (c .holds .ensures ∙ simp (toZ-ofZ f, toZ-ofZ (s .fits .bound)))
+    (kind-constraint (s .args .kind) (omega arith) (omega arith)))
 
 returns-2 : tie.Need-returns-2
 returns-2 c =
@@ -43,7 +45,8 @@ returns-2 c =
     let f : SFits w64 (z .result) = record { sfits = z .ok } in
     c .objective .ensures
     ∙ simp (toZ-ofZ f, toZ-ofZ (s .fits .bound))
-    (objective-found (readKind (s .args .kind)) (s .args .bound) (termsOn (now (s .args .weights)) (now (s .args .literals))) (assigned (now (s .args .words)))
+    (objective-found (readKind (s .args .kind)) (s .args .bound) (termsOn (now (s .args .weights)) (now (s .args .literals)))
+    (assigned (now (s .args .words)))
     (z .result) (s .args .ones) (s .args .row) (z .ensures)
     (kind-other (s .args .kind) (⊎-elim (λ w. inl (omega arith)) (λ w. inr (omega arith)) (c .before .if1 .came))))
 

@@ -1,5 +1,5 @@
--- `evaluator::covered` meets its contract. The loop's invariant: what is left of the codes decides. The measure is what is left of the length.
--- Assumes nothing.
+-- `evaluator::covered` meets its contract. The loop's invariant: what is left of the codes decides. The measure is what is left of
+-- the length. Assumes nothing.
 use mathlib.Core.Path.{_≡_, refl, sym, ap, _∙_}
 use mathlib.Core.Bool.{Bool}
 use Prim.Native.Nat.{ℕ, _≤_, _-_}
@@ -37,7 +37,9 @@ has k = let a = start k .args in hasBy (a .all) (now (a .words)) (now (a .known)
 
 -- what the call says of the code that is read
 asked : (k : At) → has k (indexOf (getD (now (start k .args .literals)) (place k) 0)) ≡ k .has-value .result
-asked k = ap (has k) (sym (k .before .index .ensures ∙ k .before .before .var .ensures ∙ ap indexOf (k .before .before .before .of-code .ensures))) ∙ sym (k .has-value .ensures)
+asked k =
+    ap (has k) (sym (k .before .index .ensures ∙ k .before .before .var .ensures
+    ∙ ap indexOf (k .before .before .before .of-code .ensures))) ∙ sym (k .has-value .ensures)
 
 loop-holds : tie.Need-loop-holds Inv-loop μ-loop
 loop-holds c = (omega arith, refl)
@@ -67,7 +69,8 @@ returns : tie.Need-returns Inv-loop μ-loop
 returns c =
     let k = c .before in
     let l = k .before .before .before .before .before .before .loop in
-    sym (l .inv .1 ∙ every-fails (λ x. has k (indexOf x)) (now (start k .args .literals)) (l .i) (omega arith) (asked k ∙ not-true _ (c .if1 .taken)))
+    sym (l .inv .1 ∙ every-fails (λ x. has k (indexOf x)) (now (start k .args .literals)) (l .i) (omega arith)
+    (asked k ∙ not-true _ (c .if1 .taken)))
 
 add-i : tie.Need-add-i Inv-loop μ-loop
 add-i c = omega arith
@@ -78,8 +81,12 @@ loop-less c = omega arith
 loop-again : tie.Need-loop-again Inv-loop μ-loop
 loop-again c =
     let k = c .before in
-    let l = k .before .before .before .before .before .before .loop in
-    (omega arith, l .inv .1 ∙ every-passes (λ x. has k (indexOf x)) (now (start k .args .literals)) (l .i) (omega arith) (asked k ∙ not-false _ (c .if1 .left)))
+    let l = k .before .before .before .before .before .before .loop in (
+      omega arith,
+      l .inv .1
+          ∙ every-passes (λ x. has k (indexOf x)) (now (start k .args .literals)) (l .i) (omega arith)
+          (asked k ∙ not-false _ (c .if1 .left)),
+    )
 
 returns-2 : tie.Need-returns-2 Inv-loop μ-loop
 returns-2 c = let l = c .before .loop in sym (l .inv .1 ∙ every-end _ _ (l .i) (c .loop-test .left))

@@ -1,4 +1,5 @@
--- `evaluator::evaluate_entry` meets its contract: a read kind whose terms lie in their columns, whose parts are handed on (proofs/Answers.antt). Assumes nothing.
+-- `evaluator::evaluate_entry` meets its contract: a read kind whose terms lie in their columns, whose parts are handed on
+-- (proofs/Answers.antt). Assumes nothing.
 use mathlib.Core.Path.{_≡_, sym, ap, _∙_}
 use mathlib.Core.Bool.{true}
 use mathlib.Core.Logic.{inl, inr, ⊎-elim}
@@ -10,7 +11,7 @@ use denote.Ref.{now}
 use lib.Dec.{leb}
 use lib.ListN.{length}
 use mir.Facts.{toZ-ofZ}
-use Rattle.definitions.specs.Table.{Entry}
+use Rattle.definitions.specs.declared.Entry.{Entry}
 use Rattle.evaluator.proofs.Answers.{refused-is, entry-unread, entry-outside, entry-inside}
 use Rattle.evaluator.proofs.evaluate_entry.Statement.{statement}
 use Rattle.evaluator.proofs.evaluate_entry.Tie as tie
@@ -23,7 +24,9 @@ start c = c .before .before .before .before .before .before .before
 
 -- what the test of the column says
 tested : (c : tie.After-in-column)
-    → c .in-column .result ≡ leb (start c .args .first + start c .args .count) (min (length (now (start c .args .weights))) (length (now (start c .args .literals))))
+    → c .in-column .result
+    ≡ leb (start c .args .first + start c .args .count)
+    (min (length (now (start c .args .weights))) (length (now (start c .args .literals))))
 tested c = c .in-column .ensures ∙ ap (leb (start c .args .first + start c .args .count)) (c .before .term-room .ensures)
 
 within : (c : tie.Else3)
@@ -34,7 +37,9 @@ within c = sym (tested (c .before)) ∙ not-false _ (c .if3 .left)
 ends : (c : tie.Else3)
     → start (c .before) .args .first + start (c .before) .args .count
     ≤ min (length (now (start (c .before) .args .weights))) (length (now (start (c .before) .args .literals)))
-ends c = let a = start (c .before) .args in leb-true (a .first + a .count) (min (length (now (a .weights))) (length (now (a .literals)))) (within c)
+ends c =
+    let a = start (c .before) .args in
+    leb-true (a .first + a .count) (min (length (now (a .weights))) (length (now (a .literals)))) (within c)
 
 refused-requires : tie.Need-refused-requires
 refused-requires c κs = search needs
@@ -44,7 +49,8 @@ returns c =
     let s = c .before .before .before .before .before in
     let a = s .args in
     refused-is 11 _ _ _ (c .refused .ensures)
-    (entry-unread (entry s) (now (a .weights)) (now (a .literals)) (a .all) (now (a .words)) (now (a .known)) (a .ones) (⊎-elim (λ w. inl (omega arith)) (λ w. inr (omega arith)) (c .before .if1 .came)))
+    (entry-unread (entry s) (now (a .weights)) (now (a .literals)) (a .all) (now (a .words)) (now (a .known)) (a .ones)
+    (⊎-elim (λ w. inl (omega arith)) (λ w. inr (omega arith)) (c .before .if1 .came)))
 
 term-room-requires : tie.Need-term-room-requires
 term-room-requires c κs = search needs
@@ -61,7 +67,8 @@ returns-2 c =
     let s = start k in
     let a = s .args in
     refused-is 11 _ _ _ (c .refused2 .ensures)
-    (entry-outside (entry s) (now (a .weights)) (now (a .literals)) (a .all) (now (a .words)) (now (a .known)) (a .ones) (omega arith) (omega arith) (sym (tested k) ∙ not-true _ (c .before .if3 .taken)))
+    (entry-outside (entry s) (now (a .weights)) (now (a .literals)) (a .all) (now (a .words)) (now (a .known)) (a .ones) (omega arith)
+    (omega arith) (sym (tested k) ∙ not-true _ (c .before .if3 .taken)))
 
 add-end : tie.Need-add-end
 add-end c = omega (arith, ends c, start (c .before) .good)
@@ -98,7 +105,8 @@ returns-3 c =
     let d = c .before .before .before in
     let s = start (d .before) in
     let n : s .args .first + s .args .count - s .args .first ≡ s .args .count = omega arith in
-    rw (entry-inside (entry s) (now (s .args .weights)) (now (s .args .literals)) (s .args .all) (now (s .args .words)) (now (s .args .known)) (s .args .ones) (omega arith) (omega arith) (within d))
+    rw (entry-inside (entry s) (now (s .args .weights)) (now (s .args .literals)) (s .args .all) (now (s .args .words))
+    (now (s .args .known)) (s .args .ones) (omega arith) (omega arith) (within d))
     (rw (toZ-ofZ (s .fits .bound), n) at (c .evaluate-terms .ensures))
 
 pub evaluate-entry-spec : {M : Type 1} → statement M

@@ -40,7 +40,13 @@ returns c =
     let k = o .before .before .before in
     let s = k .before .before .before .before .before .before .before .before in
     let a = s .args in
-    rw (o .ones-of .ensures, k .before .lesser .ensures, k .lesser2 .ensures, take-room wordLimit (now (a .values)), take-room wordLimit (now (a .known))) at (c .evaluate-row .ensures)
+    rw (
+      o .ones-of .ensures,
+      k .before .lesser .ensures,
+      k .lesser2 .ensures,
+      take-room wordLimit (now (a .values)),
+      take-room wordLimit (now (a .known)),
+    ) at (c .evaluate-row .ensures)
 
 pub evaluate-known-spec : {M : Type 1} → statement M
 evaluate-known-spec =

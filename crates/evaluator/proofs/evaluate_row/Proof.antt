@@ -16,7 +16,8 @@ use Rattle.evaluator.proofs.evaluate_row.Tie as tie
 
 abbrev lent : tie.Start → Table
 lent s =
-    table (now (s .args .kinds)) (now (s .args .firsts)) (now (s .args .counts)) (now (s .args .bounds)) (now (s .args .weights)) (now (s .args .literals))
+    table (now (s .args .kinds)) (now (s .args .firsts)) (now (s .args .counts)) (now (s .args .bounds)) (now (s .args .weights))
+    (now (s .args .literals))
 
 row-room-requires : tie.Need-row-room-requires
 row-room-requires c κs = search needs
@@ -31,7 +32,10 @@ returns c =
     let a = s .args in
     let ws = now (a .words) in
     let ks = now (a .known) in
-    rw (c .refused .ensures, row-missing (lent s) (a .row) (hasBy (a .all) ws ks) (assigned ws) (a .ones) (omega (arith, k .row-room .ensures)))
+    rw (
+      c .refused .ensures,
+      row-missing (lent s) (a .row) (hasBy (a .all) ws ks) (assigned ws) (a .ones) (omega (arith, k .row-room .ensures)),
+    )
 
 shared-slice-read-evaluate-entry : tie.Need-shared-slice-read-evaluate-entry
 shared-slice-read-evaluate-entry c = search needs

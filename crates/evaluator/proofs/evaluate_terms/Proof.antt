@@ -1,4 +1,5 @@
--- `evaluator::evaluate_terms` meets its contract: each refusal is where the definition gives it, in its order (proofs/Answers.antt). Assumes nothing.
+-- `evaluator::evaluate_terms` meets its contract: each refusal is where the definition gives it, in its order
+-- (proofs/Answers.antt). Assumes nothing.
 use mathlib.Core.Path.{_≡_, sym, _∙_}
 use mathlib.Core.Bool.{Bool, true, false}
 use Prim.Native.Nat.{ℕ, _≤_}
@@ -34,7 +35,8 @@ has k = let a = start k .args in hasBy (a .all) (now (a .words)) (now (a .known)
 covers : (c : tie.Else3) → codesCovered (has (c .before .before .before)) (now (start (c .before .before .before) .args .literals)) ≡ true
 covers c = sym (c .before .before .before .covered .ensures) ∙ not-false _ (c .if3 .left)
 
-uncovered : (c : tie.Then3) → codesCovered (has (c .before .before .before)) (now (start (c .before .before .before) .args .literals)) ≡ false
+uncovered : (c : tie.Then3)
+    → codesCovered (has (c .before .before .before)) (now (start (c .before .before .before) .args .literals)) ≡ false
 uncovered c = sym (c .before .before .before .covered .ensures) ∙ not-true _ (c .if3 .taken)
 
 -- ---- the needs
@@ -56,7 +58,8 @@ returns c =
     let k = c .before .before in
     let a = start k .args in
     refused-is 11 _ _ _ (c .refused .ensures)
-    (terms-11 (a .kind) (a .bound) (now (a .weights)) (now (a .literals)) (a .all) (now (a .words)) (now (a .known)) (a .ones) (start k .pre)
+    (terms-11 (a .kind) (a .bound) (now (a .weights)) (now (a .literals)) (a .all) (now (a .words)) (now (a .known)) (a .ones)
+    (start k .pre)
     (sym (k .before .before .indexed-of .ensures) ∙ not-true _ (c .before .if1 .taken)))
 
 refused-requires-2 : tie.Need-refused-requires-2
@@ -68,7 +71,8 @@ returns-2 c =
     let k = d .before in
     let a = start k .args in
     refused-is 8 _ _ _ (c .refused2 .ensures)
-    (terms-8 (a .kind) (a .bound) (now (a .weights)) (now (a .literals)) (a .all) (now (a .words)) (now (a .known)) (a .ones) (start k .pre) (indexes d)
+    (terms-8 (a .kind) (a .bound) (now (a .weights)) (now (a .literals)) (a .all) (now (a .words)) (now (a .known)) (a .ones)
+    (start k .pre) (indexes d)
     (omega (arith, c .before .if2 .taken, k .before .sizes-of .ensures)))
 
 refused-requires-3 : tie.Need-refused-requires-3
@@ -80,21 +84,28 @@ returns-3 c =
     let k = d .before .before in
     let a = start k .args in
     refused-is 12 _ _ _ (c .refused3 .ensures)
-    (terms-12 (a .kind) (a .bound) (now (a .weights)) (now (a .literals)) (a .all) (now (a .words)) (now (a .known)) (a .ones) (start k .pre) (indexes (d .before)) (small d) (uncovered (c .before)))
+    (terms-12 (a .kind) (a .bound) (now (a .weights)) (now (a .literals)) (a .all) (now (a .words)) (now (a .known)) (a .ones)
+    (start k .pre) (indexes (d .before)) (small d) (uncovered (c .before)))
 
 answer-requires : tie.Need-answer-requires
 answer-requires c κs =
     let s = start (c .before .before .before) in
     let e = sizes-on (now (s .args .weights)) (now (s .args .literals)) (s .pre) in
-    let a = s .args in
-    (s .pre, (omega (arith, e, small (c .before)), covered-within (a .all) (now (a .words)) (now (a .known)) (now (a .literals)) (covers c)))
+    let a = s .args in (
+      s .pre,
+      (
+        omega (arith, e, small (c .before)),
+        covered-within (a .all) (now (a .words)) (now (a .known)) (now (a .literals)) (covers c),
+      ),
+    )
 
 returns-4 : tie.Need-returns-4
 returns-4 c =
     let d = c .before .before in
     let k = d .before .before in
     let a = start k .args in
-    rw (terms-found (a .kind) (a .bound) (now (a .weights)) (now (a .literals)) (a .all) (now (a .words)) (now (a .known)) (a .ones) (start k .pre) (indexes (d .before)) (small d) (covers (c .before)))
+    rw (terms-found (a .kind) (a .bound) (now (a .weights)) (now (a .literals)) (a .all) (now (a .words)) (now (a .known)) (a .ones)
+    (start k .pre) (indexes (d .before)) (small d) (covers (c .before)))
     (rw (toZ-ofZ (start k .fits .bound)) at (c .answer .ensures))
 
 pub evaluate-terms-spec : {M : Type 1} → statement M

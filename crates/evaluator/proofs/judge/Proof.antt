@@ -1,4 +1,5 @@
--- `evaluator::judge` meets its contract: its row under the words of both rows that are looked at, with no ones (proofs/Judged.antt). Assumes nothing.
+-- `evaluator::judge` meets its contract: its row under the words of both rows that are looked at, with no ones
+-- (proofs/Judged.antt). Assumes nothing.
 use mathlib.Core.Path.{_∙_}
 use native.Mathlib.Omega.{arith}
 use borrow.Author.Needs.{needs}
@@ -37,7 +38,12 @@ returns c =
     let t = table (now (a .kinds)) (now (a .firsts)) (now (a .counts)) (now (a .bounds)) (now (a .weights)) (now (a .literals)) in
     let ws = take wordLimit (now (a .values)) in
     let ks = take wordLimit (now (a .known)) in
-    (rw (k .before .lesser .ensures, k .lesser2 .ensures, take-room wordLimit (now (a .values)), take-room wordLimit (now (a .known))) at (c .evaluate-row .ensures))
+    (rw (
+      k .before .lesser .ensures,
+      k .lesser2 .ensures,
+      take-room wordLimit (now (a .values)),
+      take-room wordLimit (now (a .known)),
+    ) at (c .evaluate-row .ensures))
     ∙ without-ones (a .row) (isKnown ws ks) (assigned ws) (knownOnes ws ks) t
 
 pub judge-spec : {M : Type 1} → statement M

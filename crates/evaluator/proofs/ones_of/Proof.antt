@@ -1,5 +1,5 @@
--- `evaluator::ones_of` meets its contract. The loop's invariant: the known ones of the words passed (`Counted`, proofs/Counts.antt), at most 64 of each; the
--- measure is what is left of the length. Assumes nothing.
+-- `evaluator::ones_of` meets its contract. The loop's invariant: the known ones of the words passed (`Counted`,
+-- proofs/Counts.antt), at most 64 of each; the measure is what is left of the length. Assumes nothing.
 use Prim.Native.Nat.{ℕ, _-_, _<_, _≤_, _^_}
 use native.Mathlib.Omega.{arith}
 use borrow.Author.Needs.{needs, scaled-fits}
@@ -61,8 +61,12 @@ loop-less c = omega arith
 loop-again : tie.Need-loop-again Inv-loop μ-loop
 loop-again c =
     let l = c .before .before .before .loop in
-    let a = start c .args in
-    (omega arith, rw (c .before .known-word .ensures) (counted-more (a .all) (now (a .words)) (now (a .known)) (l .i) (l .ones) (l .inv .1) (c .before .before .loop-test .taken) (word-fits c)))
+    let a = start c .args in (
+      omega arith,
+      rw (c .before .known-word .ensures)
+          (counted-more (a .all) (now (a .words)) (now (a .known)) (l .i) (l .ones) (l .inv .1) (c .before .before .loop-test .taken)
+          (word-fits c)),
+    )
 
 returns : tie.Need-returns Inv-loop μ-loop
 returns c = let l = c .before .loop in counted-all _ _ _ (l .i) (l .ones) (l .inv .1) (omega arith)

@@ -1,5 +1,6 @@
--- `evaluator::sum_of` meets its contract. The loop's invariant: the sum of the terms passed; the measure is what is left of the length. Each sum is in 64 signed
--- bits since the absolute weights together are at most M (`sum-to-in`, proofs/Sums.antt). Assumes nothing.
+-- `evaluator::sum_of` meets its contract. The loop's invariant: the sum of the terms passed; the measure is what is left of the
+-- length. Each sum is in 64 signed bits since the absolute weights together are at most M (`sum-to-in`, proofs/Sums.antt). Assumes
+-- nothing.
 use mathlib.Core.Path.{_≡_, refl, sym, ap, _∙_}
 use mathlib.Core.Logic.{⊎-elim}
 use Prim.Native.Nat.{ℕ, _+_, _≤_, _-_}
@@ -45,7 +46,9 @@ is-true-requires c κs =
     (covered-at (now (s .args .words)) (now (s .args .literals)) (c .before .before .before .loop .i) (s .pre .1 .1) (omega arith))
 
 mul-w : tie.Need-mul-w Inv-loop μ-loop
-mul-w c = scaled-fits _ _ _ (c .before .before .before .before .loop-test .taken) (c .before .before .before .before .before .before .before .before .good .0 .1)
+mul-w c =
+    scaled-fits _ _ _ (c .before .before .before .before .loop-test .taken)
+    (c .before .before .before .before .before .before .before .before .good .0 .1)
 
 shared-slice-copy-out-w : tie.Need-shared-slice-copy-out-w Inv-loop μ-loop
 shared-slice-copy-out-w c = omega arith
@@ -72,18 +75,21 @@ abbrev total : At → ℕ → ℤ
 total k n = let a = start-at k .args in sumTo (assigned (now (a .words))) (now (a .weights)) (now (a .literals)) n
 
 total-in : (k : At) (n : ℕ) → SFits w64 (total k n)
-total-in k n = let a = start-at k .args in sum-to-in (assigned (now (a .words))) (now (a .weights)) (now (a .literals)) n (start-at k .pre .1 .0)
+total-in k n =
+    let a = start-at k .args in sum-to-in (assigned (now (a .words))) (now (a .weights)) (now (a .literals)) n (start-at k .pre .1 .0)
 
 -- with the weight that was read
 added : (c : tie.After-w Inv-loop μ-loop) → toZ w64 (c .before .before .before .before .before .before .loop .sum)
-    +ℤ toZ w64 (ofZ w64 (getD (now (start-at (c .before .before) .args .weights)) (i-at (c .before .before)) (pos 0))) ≡ total (c .before .before) (i-at (c .before .before) + 1)
+    +ℤ toZ w64 (ofZ w64 (getD (now (start-at (c .before .before) .args .weights)) (i-at (c .before .before)) (pos 0)))
+    ≡ total (c .before .before) (i-at (c .before .before) + 1)
 added c =
     let k = c .before .before in
     let l = k .before .before .before .before .loop in
     let a = start-at k .args in
     let f : SFits w64 (getD (now (a .weights)) (l .i) (pos 0)) = record { sfits = c .w .given } in
     rw (toZ-ofZ f, l .inv .1)
-    (sum-true (assigned (now (a .words))) (now (a .weights)) (now (a .literals)) (l .i) (omega arith) (omega arith) (read-true k ∙ c .before .if1 .taken))
+    (sum-true (assigned (now (a .words))) (now (a .weights)) (now (a .literals)) (l .i) (omega arith) (omega arith)
+    (read-true k ∙ c .before .if1 .taken))
 
 add-sum : tie.Need-add-sum Inv-loop μ-loop
 add-sum c = rw (added c) (total-in (c .before .before) (i-at (c .before .before) + 1))
@@ -104,7 +110,8 @@ loop-again c =
           (λ w. let m : tie.After-w Inv-loop μ-loop = record { before = record { before = k; if1 = w .0 }; w = w .1 } in
           rw (w .2, added m) (toZ-ofZ (total-in k (l .i + 1))))
           (λ w. rw (w .1) (l .inv .1
-          ∙ sum-false (assigned (now (a .words))) (now (a .weights)) (now (a .literals)) (l .i) (omega arith) (omega arith) (read-true k ∙ w .0 .left)))
+          ∙ sum-false (assigned (now (a .words))) (now (a .weights)) (now (a .literals)) (l .i) (omega arith) (omega arith)
+          (read-true k ∙ w .0 .left)))
           (c .if1 .came),
     )
 

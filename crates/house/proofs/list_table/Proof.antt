@@ -6,16 +6,18 @@ use lib.ListN.{length}
 use denote.Ref.{now}
 use Rattle.definitions.specs.Limits.{neededLimit}
 use Rattle.definitions.specs.Table.{Table, table}
-use Rattle.house.specs.declared.measure.Size.{Size}
-use Rattle.house.specs.Words.{linesOf}
-use Rattle.house.specs.Sizes.{saidMeasured}
-use Rattle.house.proofs.Listings.{Counted, refused-sizes, accepted-sizes, lists-refused, listing-full, head-room, lines-ready, listing-all}
+use Rattle.house_measures.specs.declared.rows.Size.{Size}
+use Rattle.house_measures.specs.Lines.{linesOf}
+use Rattle.house_measures.specs.Sizes.{saidMeasured}
+use Rattle.house.proofs.Listings.{Counted, refused-sizes, accepted-sizes, lists-refused, listing-full}
+use Rattle.house.proofs.Listings.{head-room, lines-ready, listing-all}
 use borrow.Author.Needs.{needs}
 use Rattle.house.proofs.list_table.Statement.{statement}
 use Rattle.house.proofs.list_table.Tie as tie
 
 abbrev whole : tie.Start → Table
-whole s = table (now (s .args .kinds)) (now (s .args .firsts)) (now (s .args .counts)) (now (s .args .bounds)) (now (s .args .weights)) (now (s .args .literals))
+whole s = table (now (s .args .kinds)) (now (s .args .firsts)) (now (s .args .counts)) (now (s .args .bounds))
+    (now (s .args .weights)) (now (s .args .literals))
 
 module _ (c : tie.After-text-length) where
   abbrev start : tie.Start
@@ -27,9 +29,11 @@ module _ (c : tie.After-text-length) where
   abbrev size : Size
   size = c .before .before .n .given .0 .1 .0
 
-  counted : Counted (start .args .first) (linesOf (start .args .first) (start .args .rows) (whole start)) (record { rows = rows; all = size })
+  counted : Counted (start .args .first) (linesOf (start .args .first) (start .args .rows) (whole start))
+      (record { rows = rows; all = size })
   counted =
-      accepted-sizes (start .args .first) (linesOf (start .args .first) (start .args .rows) (whole start)) (record { rows = rows; all = size })
+      accepted-sizes (start .args .first) (linesOf (start .args .first) (start .args .rows) (whole start))
+      (record { rows = rows; all = size })
       (sym (ap saidMeasured (c .before .before .n .given .1)) ∙ c .before .before .before .before .measure-rows .ensures)
 
   short : length (now (start .args .out)) < neededLimit
@@ -38,8 +42,8 @@ module _ (c : tie.After-text-length) where
 measure-rows-requires : tie.Need-measure-rows-requires
 measure-rows-requires c κs = search needs
 
-enum-known-number : tie.Need-enum-known-number
-enum-known-number c = search needs
+enum-known-refusal : tie.Need-enum-known-refusal
+enum-known-refusal c = search needs
 
 enum-known-n : tie.Need-enum-known-n
 enum-known-n c = search needs
@@ -51,28 +55,32 @@ returns : tie.Need-returns
 returns c =
     let d = c .before in
     let s = start d in
-    listing-full (s .args .first) (s .args .rows) (whole s) (now (s .args .out)) (rows d) (size d .terms) (size d .length) (counted d) _ (d .text-length .ensures) (c .if1 .taken)
+    listing-full (s .args .first) (s .args .rows) (whole s) (now (s .args .out)) (rows d) (size d .terms) (size d .length)
+    (counted d) _ (d .text-length .ensures) (c .if1 .taken)
 
 put-head-requires : tie.Need-put-head-requires
 put-head-requires c κs =
     let d = c .before .before in
     let s = start d in
-    head-room (s .args .first) (s .args .rows) (whole s) (now (s .args .out)) (rows d) (size d .terms) (size d .length) (counted d) _ (d .text-length .ensures) (c .before .if1 .left) (short d)
+    head-room (s .args .first) (s .args .rows) (whole s) (now (s .args .out)) (rows d) (size d .terms) (size d .length)
+    (counted d) _ (d .text-length .ensures) (c .before .if1 .left) (short d)
 
 put-rows-requires : tie.Need-put-rows-requires
 put-rows-requires c κs =
     let p = c .before .before .before in
     let d = p .before .before .before in
     let s = start d in
-    lines-ready (s .args .first) (s .args .rows) (whole s) (now (s .args .out)) (rows d) (size d .terms) (size d .length) (counted d) _ (d .text-length .ensures) (p .before .before .if1 .left) (short d)
+    lines-ready (s .args .first) (s .args .rows) (whole s) (now (s .args .out)) (rows d) (size d .terms) (size d .length)
+    (counted d) _ (d .text-length .ensures) (p .before .before .if1 .left) (short d)
     (p .put-head .ensures)
 
 returns-2 : tie.Need-returns-2
 returns-2 c =
     let m = c .before .before .before in
     let s = m .before .before .before .before .before .before in
-    lists-refused (s .args .first) (s .args .rows) (whole s) (now (s .args .out)) _ _
-    (refused-sizes (s .args .first) _ _ (linesOf (s .args .first) (s .args .rows) (whole s)) (sym (ap saidMeasured (c .before .number .given .1)) ∙ m .measure-rows .ensures))
+    lists-refused (s .args .first) (s .args .rows) (whole s) (now (s .args .out)) _
+    (refused-sizes (s .args .first) _ (linesOf (s .args .first) (s .args .rows) (whole s))
+    (sym (ap saidMeasured (c .before .refusal .given .1)) ∙ m .measure-rows .ensures))
 
 same-length : tie.Need-same-length
 same-length c = search needs
@@ -83,7 +91,8 @@ returns-3 c =
     let p = q .before .before .before .before in
     let d = p .before .before .before in
     let s = start d in
-    listing-all (s .args .first) (s .args .rows) (whole s) (now (s .args .out)) (rows d) (size d .terms) (size d .length) (counted d) _ (d .text-length .ensures) (p .before .before .if1 .left) (short d)
+    listing-all (s .args .first) (s .args .rows) (whole s) (now (s .args .out)) (rows d) (size d .terms) (size d .length)
+    (counted d) _ (d .text-length .ensures) (p .before .before .if1 .left) (short d)
     (p .put-head .ensures) (q .put-rows .ensures)
 
 pub list-table-spec : {M : Type 1} → statement M
@@ -91,7 +100,7 @@ list-table-spec =
     tie.close
     (tie.spec
     measure-rows-requires
-    enum-known-number
+    enum-known-refusal
     enum-known-n
     text-length-requires
     returns

@@ -1,4 +1,5 @@
--- `list_file` meets its contract: lines that are longer than the output are refused before anything is changed; all others are listed (proofs/Files.antt).
+-- `list_file` meets its contract: lines that are longer than the output are refused before anything is changed; all
+-- others are listed (proofs/Files.antt).
 use Prim.Native.Nat.{ℕ, _<_}
 use mathlib.Core.List.{List}
 use mathlib.Core.Path.{_≡_, sym}
@@ -11,7 +12,7 @@ use Rattle.definitions.specs.Refusal.{needed}
 use Rattle.definitions.specs.Table.{Table, table}
 use Rattle.definitions.specs.File.{firstAt, reading}
 use Rattle.definitions.specs.House.{listing}
-use Rattle.listing.proofs.Files.{lists-full, lists-room, lists-all}
+use Rattle.listing.proofs.Files.{lists-full, lists-all}
 use Rattle.listing.proofs.list_file.Statement.{statement}
 use Rattle.listing.proofs.list_file.Tie as tie
 
@@ -24,13 +25,15 @@ module _ (c : tie.After-listing-length) where
   text = now (start .args .file)
 
   abbrev lent : Table
-  lent = table (now (start .args .kinds)) (now (start .args .firsts)) (now (start .args .counts)) (now (start .args .bounds)) (now (start .args .weights)) (now (start .args .literals))
+  lent = table (now (start .args .kinds)) (now (start .args .firsts)) (now (start .args .counts)) (now (start .args .bounds))
+      (now (start .args .weights)) (now (start .args .literals))
 
   abbrev out : List ℕ
   out = now (start .args .out)
 
   measured : c .listing-length .result ≡ needed (length (listing (start .args .first) (reading (firstAt (start .args .first)) text lent)))
-  measured = c .listing-length .ensures lent (sym (c .before .before .before .before .row-room .ensures)) (sym (c .before .term-room .ensures))
+  measured =
+      c .listing-length .ensures lent (sym (c .before .before .before .before .row-room .ensures)) (sym (c .before .term-room .ensures))
 
   short : length out < neededLimit
   short = omega (arith, start .good)
@@ -68,10 +71,7 @@ returns c =
     lists-full (start d .args .first) (text d) (lent d) (out d) _ (measured d) (c .if1 .taken)
 
 list-read-requires : tie.Need-list-read-requires
-list-read-requires c κs =
-    let e = c .before .before .before .before .before .before .before in
-    let d = e .before in
-    lists-room (start d .args .first) (text d) (lent d) (out d) _ (measured d) (e .if1 .left) (short d)
+list-read-requires c κs = search needs
 
 same-length-7 : tie.Need-same-length-7
 same-length-7 c = search needs
@@ -100,7 +100,8 @@ returns-2 c =
     let e = r .before .before .before .before .before .before .before .before in
     let d = e .before in
     let l = r .list-read .last in
-    let left = table (l .1 .1 .0) (l .1 .1 .1 .0) (l .1 .1 .1 .1 .0) (l .1 .1 .1 .1 .1 .0) (l .1 .1 .1 .1 .1 .1 .0) (l .1 .1 .1 .1 .1 .1 .1 .0) in
+    let left = table (l .1 .1 .0) (l .1 .1 .1 .0) (l .1 .1 .1 .1 .0) (l .1 .1 .1 .1 .1 .0) (l .1 .1 .1 .1 .1 .1 .0)
+    (l .1 .1 .1 .1 .1 .1 .1 .0) in
     lists-all (start d .args .first) (text d) (lent d) (out d) _ (measured d) (e .if1 .left) (short d) left _ (r .list-read .ensures)
 
 pub list-file-spec : {M : Type 1} → statement M

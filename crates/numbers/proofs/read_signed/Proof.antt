@@ -15,7 +15,8 @@ use Rattle.numbers.proofs.read_signed.Tie as tie
 greatest : (c : tie.Joined2) → c .if2 .most ≡ most (c .before .before .before .before .args .negative)
 greatest c = ⊎-elim (λ w. rw (w .0 .taken) (w .1)) (λ w. rw (w .0 .left) (w .1)) (c .if2 .came)
 
-small : (c : tie.Else3) → c .before .before .before .read-run .result .size ≤ most (c .before .before .before .before .before .args .negative)
+small : (c : tie.Else3)
+    → c .before .before .before .read-run .result .size ≤ most (c .before .before .before .before .before .args .negative)
 small c = omega (arith, greatest (c .before), c .if3 .left)
 
 read-run-requires : tie.Need-read-run-requires

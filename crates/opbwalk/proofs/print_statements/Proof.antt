@@ -1,4 +1,5 @@
--- `print_statements` meets its contract: each line takes the offset forward, so that what is left of the file falls; columns and output keep their lengths.
+-- `print_statements` meets its contract: each line takes the offset forward, so that what is left of the file falls; columns and
+-- output keep their lengths.
 use Prim.Native.Nat.{ℕ, _-_}
 use mathlib.Core.List.{List}
 use mathlib.Core.Path.{_≡_, refl, ap, sym, _∙_}
@@ -9,21 +10,21 @@ use lib.ListN.{length}
 use Rattle.definitions.specs.Stepping.{stepAt}
 use Rattle.definitions.specs.declared.Options.{Options}
 use Rattle.definitions.proofs.SameAnswers.{Forward}
-use Rattle.reader.specs.Brief.{LineBrief, lineBrief}
 use Rattle.walker.specs.Said.{saidStepped}
 use Rattle.walker.proofs.Stepping.{told-forward}
 use Rattle.opbwalk.proofs.print_statements.Statement.{statement}
 use Rattle.opbwalk.proofs.print_statements.Tie as tie
 
 abbrev Inv-loop : tie.InvT-loop
-Inv-loop file weights₀ literals₀ out₀ options at₀ weights literals out at = (length weights ≡ length weights₀) × (length literals ≡ length literals₀) × (length out ≡ length out₀)
+Inv-loop file weights₀ literals₀ out₀ options at₀ weights literals out at = (length weights ≡ length weights₀)
+    × (length literals ≡ length literals₀) × (length out ≡ length out₀)
 
 abbrev μ-loop : tie.MeasureT-loop
 μ-loop file weights₀ literals₀ out₀ options at₀ weights literals out at = length file - at
 
 -- a line was found
 module _ (c : tie.After-known-told Inv-loop μ-loop) where
-  abbrev told : tie.After-kind Inv-loop μ-loop
+  abbrev told : tie.After-entry Inv-loop μ-loop
   told = c .before
 
   abbrev turn : tie.At-loop Inv-loop μ-loop
@@ -35,20 +36,18 @@ module _ (c : tie.After-known-told Inv-loop μ-loop) where
   abbrev text : List ℕ
   text = now (turn .before .before .before .before .args .file)
 
-  abbrev line : LineBrief
-  line = lineBrief (told .kind .given .0 .0) (told .kind .given .0 .1 .0) (told .kind .given .0 .1 .1 .0) (told .kind .given .0 .1 .1 .1 .0)
-
-  onward : Forward options text (turn .loop .at) (told .kind .given .0 .1 .1 .1 .1 .0)
-  onward = told-forward options text (turn .loop .at) line _ (sym (ap saidStepped (told .kind .given .1)) ∙ told .before .before .statement-at .ensures)
+  onward : Forward options text (turn .loop .at) (told .entry .given .0 .1 .0)
+  onward =
+      told-forward options text (turn .loop .at) _ _ (sym (ap saidStepped (told .entry .given .1)) ∙ told .before .before .step-at .ensures)
 
 loop-holds : tie.Need-loop-holds Inv-loop μ-loop
 loop-holds c = (refl, refl, refl)
 
-statement-at-requires : tie.Need-statement-at-requires Inv-loop μ-loop
-statement-at-requires c κs = search needs
+step-at-requires : tie.Need-step-at-requires Inv-loop μ-loop
+step-at-requires c κs = search needs
 
-enum-known-kind : tie.Need-enum-known-kind Inv-loop μ-loop
-enum-known-kind c = search needs
+enum-known-entry : tie.Need-enum-known-entry Inv-loop μ-loop
+enum-known-entry c = search needs
 
 same-length : tie.Need-same-length Inv-loop μ-loop
 same-length c = search needs
@@ -92,8 +91,8 @@ print-statements-spec =
     Inv-loop
     μ-loop
     loop-holds
-    statement-at-requires
-    enum-known-kind
+    step-at-requires
+    enum-known-entry
     same-length
     same-length-2
     same-length-3

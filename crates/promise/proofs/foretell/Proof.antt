@@ -14,10 +14,13 @@ returns-3 : tie.Need-returns-3
 returns-3 c = sym (foretold-rows _ _ _ _ (c .before .before .if1 .left) (c .before .if2 .left) (c .if3 .taken))
 
 returns-4 : tie.Need-returns-4
-returns-4 c = sym (foretold-terms _ _ _ _ (c .before .before .before .if1 .left) (c .before .before .if2 .left) (c .before .if3 .left) (c .if4 .taken))
+returns-4 c =
+    sym (foretold-terms _ _ _ _ (c .before .before .before .if1 .left) (c .before .before .if2 .left) (c .before .if3 .left)
+    (c .if4 .taken))
 
 returns-5 : tie.Need-returns-5
-returns-5 c = sym (foretold-back _ _ _ _ (c .before .before .before .if1 .left) (c .before .before .if2 .left) (c .before .if3 .left) (c .if4 .left))
+returns-5 c =
+    sym (foretold-back _ _ _ _ (c .before .before .before .if1 .left) (c .before .before .if2 .left) (c .before .if3 .left) (c .if4 .left))
 
 pub foretell-spec : {M : Type 1} → statement M
 foretell-spec = tie.close (tie.spec returns returns-2 returns-3 returns-4 returns-5)

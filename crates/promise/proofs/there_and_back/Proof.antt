@@ -13,14 +13,18 @@ use Rattle.promise.proofs.there_and_back.Tie as tie
 
 module _ (c : tie.After-foresee) where
   abbrev start : tie.Start
-  start = c .before .before .before .before .before .before .before .before .before .before .before .before .before .before .before .before .before
+  start =
+      c .before .before .before .before .before .before .before .before .before .before .before .before .before .before .before .before .before
 
   abbrev rows-of : Table
-  rows-of = table (now (start .args .kinds)) (now (start .args .firsts)) (now (start .args .counts)) (now (start .args .bounds)) (now (start .args .weights)) (now (start .args .literals))
+  rows-of =
+      table (now (start .args .kinds)) (now (start .args .firsts)) (now (start .args .counts)) (now (start .args .bounds))
+      (now (start .args .weights)) (now (start .args .literals))
 
   abbrev new-of : Table
   new-of =
-      table (now (start .args .newkinds)) (now (start .args .newfirsts)) (now (start .args .newcounts)) (now (start .args .newbounds)) (now (start .args .newweights)) (now (start .args .newliterals))
+      table (now (start .args .newkinds)) (now (start .args .newfirsts)) (now (start .args .newcounts)) (now (start .args .newbounds))
+      (now (start .args .newweights)) (now (start .args .newliterals))
 
 -- the text comes back
 module _ (c : tie.After-length) where
@@ -36,7 +40,9 @@ module _ (c : tie.After-length) where
   abbrev k : ℕ
   k = c .length .given .0 .1 .1 .0
 
-  comes : back l (totalsOf n k) ≡ returning (start seen .args .mode) (new-of seen) (writing (start seen .args .mode) (rows-of seen) (now (start seen .args .text)) (length (now (start seen .args .out))))
+  comes : back l (totalsOf n k)
+      ≡ returning (start seen .args .mode) (new-of seen)
+      (writing (start seen .args .mode) (rows-of seen) (now (start seen .args .text)) (length (now (start seen .args .out))))
   comes = sym (ap saidReturned (c .length .given .1)) ∙ seen .foresee .ensures
 
 foresee-requires : tie.Need-foresee-requires
@@ -59,14 +65,16 @@ slice-reshare-prefix-parse-opb-data c =
     let w = c .before .before in
     let a = w .before .before .before in
     let s = start (seen a) in
-    text-within (s .args .mode) (rows-of (seen a)) (now (s .args .text)) (now (s .args .out)) (new-of (seen a)) (l a) (n a) (k a) (comes a) _ _ (w .write-opb-lines .ensures)
+    text-within (s .args .mode) (rows-of (seen a)) (now (s .args .text)) (now (s .args .out)) (new-of (seen a)) (l a) (n a) (k a)
+    (comes a) _ _ (w .write-opb-lines .ensures)
 
 slice-aggregate-parse-opb-data : tie.Need-slice-aggregate-parse-opb-data
 slice-aggregate-parse-opb-data c =
     let w = c .before .before .before in
     let a = w .before .before .before in
     let s = start (seen a) in
-    part-length (s .args .mode) (rows-of (seen a)) (now (s .args .text)) (now (s .args .out)) (new-of (seen a)) (l a) (n a) (k a) (comes a) _ _ (w .write-opb-lines .ensures)
+    part-length (s .args .mode) (rows-of (seen a)) (now (s .args .text)) (now (s .args .out)) (new-of (seen a)) (l a) (n a) (k a)
+    (comes a) _ _ (w .write-opb-lines .ensures)
 
 parse-opb-data-requires : tie.Need-parse-opb-data-requires
 parse-opb-data-requires c κs = search needs
@@ -93,7 +101,8 @@ returns : tie.Need-returns
 returns c =
     let d = c .before .before .before in
     let s = start d in
-    not-written (s .args .mode) (rows-of d) (now (s .args .text)) (now (s .args .out)) (new-of d) _ _ (sym (ap saidReturned (c .before .number .given .1)) ∙ d .foresee .ensures)
+    not-written (s .args .mode) (rows-of d) (now (s .args .text)) (now (s .args .out)) (new-of d) _ _
+    (sym (ap saidReturned (c .before .number .given .1)) ∙ d .foresee .ensures)
 
 same-length-7 : tie.Need-same-length-7
 same-length-7 c = search needs
@@ -117,7 +126,8 @@ returns-2 : tie.Need-returns-2
 returns-2 c =
     let d = c .before .before .before in
     let s = start d in
-    not-read (s .args .mode) (rows-of d) (now (s .args .text)) (now (s .args .out)) (new-of d) _ _ (sym (ap saidReturned (c .before .number2 .given .1)) ∙ d .foresee .ensures)
+    not-read (s .args .mode) (rows-of d) (now (s .args .text)) (now (s .args .out)) (new-of d) _ _
+    (sym (ap saidReturned (c .before .number2 .given .1)) ∙ d .foresee .ensures)
 
 same-length-13 : tie.Need-same-length-13
 same-length-13 c = search needs
@@ -146,7 +156,8 @@ returns-3 c =
     let w = p .before .before .before .before .before .before .before .before .before .before in
     let a = w .before .before .before in
     let s = start (seen a) in
-    came-back (s .args .mode) (rows-of (seen a)) (now (s .args .text)) (now (s .args .out)) (new-of (seen a)) (l a) (n a) (k a) (comes a) _ _ (w .write-opb-lines .ensures) _ _ (p .parse-opb-data .ensures)
+    came-back (s .args .mode) (rows-of (seen a)) (now (s .args .text)) (now (s .args .out)) (new-of (seen a)) (l a) (n a) (k a)
+    (comes a) _ _ (w .write-opb-lines .ensures) _ _ (p .parse-opb-data .ensures)
 
 pub there-and-back-spec : {M : Type 1} → statement M
 there-and-back-spec =

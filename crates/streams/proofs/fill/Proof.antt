@@ -37,14 +37,16 @@ module _ (c : tie.After-slice-known2 Inv-loop μ-loop) where
   answer-fits = sfits-of (c .before .before .read .ok)
 
   abbrev after-read : List ℕ
-  after-read = putMid (turn .loop .done) (length (turn .loop .buffer) - turn .loop .done) (turn .loop .buffer) (c .before .before .read .last .1 .0)
+  after-read =
+      putMid (turn .loop .done) (length (turn .loop .buffer) - turn .loop .done) (turn .loop .buffer) (c .before .before .read .last .1 .0)
 
   long : length after-read ≡ length (now (start .args .buffer))
   long = c .before .buffer .given .1 ∙ turn .loop .inv .1
 
 -- the read did not fail
 module _ (c : tie.Else1 Inv-loop μ-loop) where
-  moved : T (nonNeg (answered (c .before))) × (natAbs (answered (c .before)) ≤ length (turn (c .before) .loop .buffer) - turn (c .before) .loop .done)
+  moved : T (nonNeg (answered (c .before)))
+      × (natAbs (answered (c .before)) ≤ length (turn (c .before) .loop .buffer) - turn (c .before) .loop .done)
   moved =
       let d = c .before in
       let m = moved-count _ (answered d) (d .before .before .read .ensures) (rw (toZ-ofZ (answer-fits d)) at (c .if1 .left)) in
@@ -75,7 +77,12 @@ returns : tie.Need-returns Inv-loop μ-loop
 returns c = tt
 
 cast-n : tie.Need-cast-n Inv-loop μ-loop
-cast-n c = rw (toZ-ofZ (answer-fits (c .before))) (moved c .0, record { fits = omega (arith, moved c .1, turn (c .before) .loop .inv .1, start (c .before) .good) })
+cast-n c = rw (toZ-ofZ (answer-fits (c .before))) (
+  moved c .0,
+  record {
+    fits = omega (arith, moved c .1, turn (c .before) .loop .inv .1, start (c .before) .good);
+  },
+)
 
 same-length-2 : tie.Need-same-length-2 Inv-loop μ-loop
 same-length-2 c = long (c .before .before)

@@ -21,7 +21,8 @@ returns : tie.Need-returns
 returns c = let s = c .before .before .before .before .before in unprinted (s .args .put) (length (now (s .args .out)))
 
 slice-aggregate-print : tie.Need-slice-aggregate-print
-slice-aggregate-print c = sym (length-take-le _ (now (c .before .before .before .before .before .before .args .out)) (place-within (c .before)))
+slice-aggregate-print c =
+    sym (length-take-le _ (now (c .before .before .before .before .before .before .args .out)) (place-within (c .before)))
 
 print-requires : tie.Need-print-requires
 print-requires c κs = search needs

@@ -29,7 +29,9 @@ same-length-3 : tie.Need-same-length-3
 same-length-3 c = search needs
 
 returns-3 : tie.Need-returns-3
-returns-3 c = let n = c .before .before .before in within-longer (c .behind .result) (c .behind .ensures) (rw (n .n .given .1) at (n .before .before .before .before .fill .ensures))
+returns-3 c =
+    let n = c .before .before .before in
+    within-longer (c .behind .result) (c .behind .ensures) (rw (n .n .given .1) at (n .before .before .before .before .fill .ensures))
 
 pub read-input-spec : {M : Type 1} → statement M
 read-input-spec =

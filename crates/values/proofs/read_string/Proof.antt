@@ -1,4 +1,5 @@
--- `read_string` meets its contract: what the string's check refuses, 12, or both rows with their bits (proofs/Reading.antt). Assumes nothing.
+-- `read_string` meets its contract: what the string's check refuses, 12, or both rows with their bits (proofs/Reading.antt).
+-- Assumes nothing.
 use mathlib.Core.Path.{_≡_, refl, sym, ap, subst, _∙_}
 use mathlib.Core.Bool.{Bool}
 use mathlib.Core.List.{List, []}
@@ -10,8 +11,9 @@ use Rattle.definitions.specs.Limits.{indexLimit}
 use Rattle.definitions.specs.Values.{front, itemsFrom, hear, lengthAfter, appended}
 use Rattle.values.specs.declared.string.Checked.{Checked}
 use Rattle.values.specs.Strings.{saidChecked, Fitting}
-use Rattle.values.proofs.Lists.{length-after-appended}
-use Rattle.values.proofs.Reading.{was-false, was-true, length-kept, valued-nothing, marked-nothing, Heard, read-refused, read-short, read-fine}
+use Rattle.values.proofs.Appended.{length-after-appended}
+use Rattle.values.proofs.Reading.{was-false, was-true, length-kept, valued-nothing, marked-nothing, Heard, read-refused}
+use Rattle.values.proofs.Reading.{read-short, read-fine}
 use Rattle.values.proofs.read_string.Statement.{statement}
 use Rattle.values.proofs.read_string.Tie as tie
 
@@ -36,7 +38,8 @@ module _ (c : tie.After-check) where
 
   -- the answer of the check is what is heard
   heard : (r : Checked) → c .check .result ≡ r → Heard text kept ws ks ≡ saidChecked kept text r
-  heard r q = ap (λ f. hear f kept ws ks [] (itemsFrom front 0 text)) (start .pre .1) ∙ sym (c .check .ensures .0) ∙ ap (saidChecked kept text) q
+  heard r q =
+      ap (λ f. hear f kept ws ks [] (itemsFrom front 0 text)) (start .pre .1) ∙ sym (c .check .ensures .0) ∙ ap (saidChecked kept text) q
 
   fits : (r : Checked) → c .check .result ≡ r → Fitting r kept (length text)
   fits r q = subst (λ (x : Checked). Fitting x kept (length text)) q (c .check .ensures .1)
@@ -93,7 +96,8 @@ returns c =
     let h = c .before .before in
     let w = h .before .before .before in
     let k = w .before .before .before in
-    read-short _ _ _ _ (some k) _ (heard k _ (w .before .enum-told .given .1)) (kept k) _ (length-kept (kept k)) (w .words-for .ensures) _ (sym (h .has-words .ensures) ∙ was-false _ (c .before .if1 .taken)) (c .refused2 .ensures)
+    read-short _ _ _ _ (some k) _ (heard k _ (w .before .enum-told .given .1)) (kept k) _ (length-kept (kept k))
+    (w .words-for .ensures) _ (sym (h .has-words .ensures) ∙ was-false _ (c .before .if1 .taken)) (c .refused2 .ensures)
 
 enum-known-place : tie.Need-enum-known-place
 enum-known-place c = search needs
@@ -124,7 +128,8 @@ returns-2 c =
     let h = c .before .before in
     let w = h .before .before .before in
     let p = w .before .before in
-    read-short _ _ _ _ (some (checked p)) _ (heard (checked p) _ (p .place .given .1)) _ _ (after p) (w .words-for2 .ensures) _ (sym (h .has-words2 .ensures) ∙ was-false _ (c .before .if2 .taken))
+    read-short _ _ _ _ (some (checked p)) _ (heard (checked p) _ (p .place .given .1)) _ _ (after p) (w .words-for2 .ensures) _
+    (sym (h .has-words2 .ensures) ∙ was-false _ (c .before .if2 .taken))
     (c .refused3 .ensures)
 
 -- the string that is appended
@@ -166,7 +171,8 @@ returns-4 c =
     let h = c .before in
     let w = h .before .before .before in
     let k = w .before .before .before in
-    read-fine _ _ _ _ (some k) _ (heard k _ (w .before .enum-told .given .1)) (kept k) _ (length-kept (kept k)) (w .words-for .ensures) _ _ _ (sym (h .has-words .ensures) ∙ was-true _ (c .if1 .left)) refl (valued-nothing _) (marked-nothing _)
+    read-fine _ _ _ _ (some k) _ (heard k _ (w .before .enum-told .given .1)) (kept k) _ (length-kept (kept k))
+    (w .words-for .ensures) _ _ _ (sym (h .has-words .ensures) ∙ was-true _ (c .if1 .left)) refl (valued-nothing _) (marked-nothing _)
 
 same-length-9 : tie.Need-same-length-9
 same-length-9 c = search needs
@@ -181,7 +187,8 @@ returns-5 c =
     let p = string-of e in
     let h = e .before in
     let w = h .before .before .before in
-    read-fine _ _ _ _ (some (checked p)) _ (heard (checked p) _ (p .place .given .1)) _ _ (after p) (w .words-for2 .ensures) _ _ _ (sym (h .has-words2 .ensures) ∙ was-true _ (e .if2 .left)) refl
+    read-fine _ _ _ _ (some (checked p)) _ (heard (checked p) _ (p .place .given .1)) _ _ (after p) (w .words-for2 .ensures) _ _ _
+    (sym (h .has-words2 .ensures) ∙ was-true _ (e .if2 .left)) refl
     (a .append .ensures .0) (a .append .ensures .1)
 
 pub read-string-spec : {M : Type 1} → statement M

@@ -8,16 +8,19 @@ use mir.Syntax.{w64}
 use mir.Val.{SFits, toZ, ofZ}
 use mir.Facts.{toZ-ofZ}
 use denote.Ref.{now}
-use Rattle.definitions.specs.Table.{Table, table, rowRoom, Entry}
+use Rattle.definitions.specs.Table.{Table, table, rowRoom}
+use Rattle.definitions.specs.declared.Entry.{Entry}
 use Rattle.columns.proofs.Terms.{entryAt}
-use Rattle.writer.specs.Entries.{entryOf, onColumns, entryText}
-use Rattle.writer.proofs.Outputs.{puts-as}
-use Rattle.writer.proofs.Rowwise.{ready-as, Lining, lining-none, lining-ready, lining-more, lining-all}
+use Rattle.printed.specs.Rows.{entryOf, onColumns}
+use Rattle.writer.specs.Entries.{entryText}
+use Rattle.definitions.proofs.Puts.{puts-as}
+use Rattle.writer.proofs.Lining.{ready-as, Lining, lining-none, lining-ready, lining-more, lining-all}
 use Rattle.writer.proofs.write_lines.Statement.{statement}
 use Rattle.writer.proofs.write_lines.Tie as tie
 
 abbrev Inv-loop : tie.InvT-loop
-Inv-loop kinds firsts counts bounds weights literals text mode out₀ rows at₀ i₀ out at i = Lining mode (table kinds firsts counts bounds weights literals) text out₀ i at out
+Inv-loop kinds firsts counts bounds weights literals text mode out₀ rows at₀ i₀ out at i =
+    Lining mode (table kinds firsts counts bounds weights literals) text out₀ i at out
 
 abbrev μ-loop : tie.MeasureT-loop
 μ-loop kinds firsts counts bounds weights literals text mode out₀ rows at₀ i₀ out at i = rows - i
@@ -30,7 +33,8 @@ module _ (c : tie.In-loop Inv-loop μ-loop) where
   start = turn .before .before .before .before .before .before .before .before
 
   abbrev rows-of : Table
-  rows-of = table (now (start .args .kinds)) (now (start .args .firsts)) (now (start .args .counts)) (now (start .args .bounds)) (now (start .args .weights)) (now (start .args .literals))
+  rows-of = table (now (start .args .kinds)) (now (start .args .firsts)) (now (start .args .counts)) (now (start .args .bounds))
+      (now (start .args .weights)) (now (start .args .literals))
 
   below : turn .loop .i < rowRoom rows-of
   below = omega (arith, c .loop-test .taken, turn .before .row-room .ensures)
@@ -44,12 +48,14 @@ module _ (c : tie.After-write-entry-arg Inv-loop μ-loop) where
   begun = start looped
 
   abbrev passed : ℤ → Entry
-  passed b = entryOf (getD (now (begun .args .kinds)) (turn looped .loop .i) 0) (getD (now (begun .args .firsts)) (turn looped .loop .i) 0) (getD (now (begun .args .counts)) (turn looped .loop .i) 0) b
+  passed b = entryOf (getD (now (begun .args .kinds)) (turn looped .loop .i) 0) (getD (now (begun .args .firsts)) (turn looped .loop .i) 0)
+      (getD (now (begun .args .counts)) (turn looped .loop .i) 0) b
 
   bound-fits : SFits w64 (getD (now (begun .args .bounds)) (turn looped .loop .i) (pos 0))
   bound-fits = record { sfits = c .write-entry-arg .given }
 
-  entry-is : passed (toZ w64 (ofZ w64 (getD (now (begun .args .bounds)) (turn looped .loop .i) (pos 0)))) ≡ entryAt (rows-of looped) (turn looped .loop .i)
+  entry-is : passed (toZ w64 (ofZ w64 (getD (now (begun .args .bounds)) (turn looped .loop .i) (pos 0))))
+      ≡ entryAt (rows-of looped) (turn looped .loop .i)
   entry-is = ap passed (toZ-ofZ bound-fits)
 
 row-room-requires : tie.Need-row-room-requires Inv-loop μ-loop
@@ -97,7 +103,8 @@ loop-again c =
     let l = looped d in
     let s = start l in
     lining-more (s .pre) (turn l .loop .inv) (below l)
-    (puts-as (c .before .before .write-entry .ensures) (ap (entryText (s .args .mode) (onColumns (now (s .args .weights)) (now (s .args .literals))) (now (s .args .text))) (entry-is d)))
+    (puts-as (c .before .before .write-entry .ensures)
+    (ap (entryText (s .args .mode) (onColumns (now (s .args .weights)) (now (s .args .literals))) (now (s .args .text))) (entry-is d)))
 
 same-length : tie.Need-same-length Inv-loop μ-loop
 same-length c = c .before .loop .inv .long
@@ -105,7 +112,8 @@ same-length c = c .before .loop .inv .long
 returns : tie.Need-returns Inv-loop μ-loop
 returns c =
     let r = c .before .before in
-    lining-all (r .before .before .before .before .before .before .before .pre) (c .before .loop .inv) (omega (arith, c .loop-test .left, r .row-room .ensures))
+    lining-all (r .before .before .before .before .before .before .before .pre) (c .before .loop .inv)
+    (omega (arith, c .loop-test .left, r .row-room .ensures))
 
 pub write-lines-spec : {M : Type 1} → statement M
 write-lines-spec =

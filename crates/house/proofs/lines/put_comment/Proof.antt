@@ -8,6 +8,7 @@ use denote.Ref.{now}
 use Rattle.definitions.specs.Number.{decimal}
 use Rattle.definitions.specs.House.{field}
 use Rattle.definitions.proofs.Puts.{Puts, puts-length, byte-then, then-byte}
+use Rattle.puts.proofs.Lands.{lands}
 use borrow.Author.Needs.{needs}
 use Rattle.house.proofs.lines.put_comment.Statement.{statement}
 use Rattle.house.proofs.lines.put_comment.Tie as tie
@@ -19,10 +20,14 @@ module _ (c : tie.After-put-field) where
   abbrev start : tie.Start
   start = c .before .before .before
 
-  field-put : Puts (99 ∷ field (decimal (start .args .count))) (start .args .at) (now (start .args .out)) (c .put-field .result) (c .put-field .last .1 .0)
-  field-put = byte-then 99 (start .args .at) (start .args .at + 1) (now (start .args .out)) (omega (arith, room start)) refl (c .put-field .ensures)
+  field-put : Puts (99 ∷ field (decimal (start .args .count))) (start .args .at) (now (start .args .out)) (c .put-field .result)
+      (c .put-field .last .1 .0)
+  field-put = byte-then 99 (start .args .at) (start .args .at + 1) (now (start .args .out)) (omega (arith, room start)) refl
+      (lands (field (decimal (start .args .count))) (start .args .at + 1) _ (c .put-field .ensures)
+      (simp length-set (omega (arith, room start))))
 
-  put-room : (c .put-field .result < length (c .put-field .last .1 .0)) × (length (c .put-field .last .1 .0) ≡ length (now (start .args .out)))
+  put-room : (c .put-field .result < length (c .put-field .last .1 .0)) ×
+      (length (c .put-field .last .1 .0) ≡ length (now (start .args .out)))
   put-room =
       let l = puts-length field-put (omega (arith, room start)) in
       (omega (arith, room start, l, field-put .place), l)
@@ -34,7 +39,7 @@ add-put-field : tie.Need-add-put-field
 add-put-field c = search needs
 
 put-field-requires : tie.Need-put-field-requires
-put-field-requires c κs = simp length-set (omega (arith, room (c .before .before)))
+put-field-requires c κs = search needs
 
 slice-write-out-2 : tie.Need-slice-write-out-2
 slice-write-out-2 c = omega (arith, put-room (c .before .before))
@@ -43,7 +48,8 @@ add-result : tie.Need-add-result
 add-result c = omega (arith, put-room (c .before .before), c .before .before .before .before .before .good)
 
 same-length : tie.Need-same-length
-same-length c = simp length-set (puts-length (field-put (c .before .before)) (omega (arith, room (c .before .before .before .before .before))))
+same-length c =
+    simp length-set (puts-length (field-put (c .before .before)) (omega (arith, room (c .before .before .before .before .before))))
 
 returns : tie.Need-returns
 returns c = then-byte 10 _ (omega (arith, room (c .before .before .before .before .before))) refl (field-put (c .before .before))

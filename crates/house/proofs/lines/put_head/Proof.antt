@@ -9,6 +9,7 @@ use Rattle.definitions.specs.Bytes.{lf}
 use Rattle.definitions.specs.Number.{decimal}
 use Rattle.definitions.specs.House.{field}
 use Rattle.definitions.proofs.Puts.{Puts, front-room, rest-room, puts-then, puts-byte, puts-length}
+use Rattle.puts.proofs.Lands.{lands}
 use borrow.Author.Needs.{needs}
 use Rattle.house.proofs.lines.put_head.Statement.{statement}
 use Rattle.house.proofs.lines.put_head.Tie as tie
@@ -38,29 +39,59 @@ rows c = c .before .before .before .before
 abbrev terms : tie.After-put-field3 → tie.After-put-field2
 terms c = c .before .before .before .before
 
--- each fits
+-- each fits, so it is put
+text-put : (c : tie.After-put-text)
+    → Puts (111 ∷ 112 ∷ 98 ∷ []) 0 (now (start c .args .out)) (c .put-text .result) (c .put-text .last .1 .0)
+text-put c = lands (111 ∷ 112 ∷ 98 ∷ []) 0 _ (c .put-text .ensures) (front-room (111 ∷ 112 ∷ 98 ∷ []) (tail₁ (start c)) 0 (room (start c)))
+
 rest₁ : (c : tie.After-put-text) → c .put-text .result + length (tail₁ (start c)) ≤ length (c .put-text .last .1 .0)
-rest₁ c = rest-room (c .put-text .ensures) (tail₁ (start c)) (room (start c))
+rest₁ c = rest-room (text-put c) (tail₁ (start c)) (room (start c))
+
+rows-put : (c : tie.After-put-field)
+    → Puts (field (decimal (start (word c) .args .rows))) (word c .put-text .result) (word c .put-text .last .1 .0)
+    (c .put-field .result) (c .put-field .last .1 .0)
+rows-put c =
+    let s = start (word c) in
+    lands (field (decimal (s .args .rows))) _ _ (c .put-field .ensures)
+    (front-room (field (decimal (s .args .rows))) (tail₂ s) _ (rest₁ (word c)))
 
 rest₂ : (c : tie.After-put-field) → c .put-field .result + length (tail₂ (start (word c))) ≤ length (c .put-field .last .1 .0)
-rest₂ c = rest-room (c .put-field .ensures) (tail₂ (start (word c))) (rest₁ (word c))
+rest₂ c = rest-room (rows-put c) (tail₂ (start (word c))) (rest₁ (word c))
+
+terms-put : (c : tie.After-put-field2)
+    → Puts (field (decimal (start (word (rows c)) .args .terms))) (rows c .put-field .result) (rows c .put-field .last .1 .0)
+    (c .put-field2 .result) (c .put-field2 .last .1 .0)
+terms-put c =
+    let s = start (word (rows c)) in
+    lands (field (decimal (s .args .terms))) _ _ (c .put-field2 .ensures)
+    (front-room (field (decimal (s .args .terms))) (tail₃ s) _ (rest₂ (rows c)))
 
 rest₃ : (c : tie.After-put-field2) → c .put-field2 .result + length (tail₃ (start (word (rows c)))) ≤ length (c .put-field2 .last .1 .0)
-rest₃ c = rest-room (c .put-field2 .ensures) (tail₃ (start (word (rows c)))) (rest₂ (rows c))
+rest₃ c = rest-room (terms-put c) (tail₃ (start (word (rows c)))) (rest₂ (rows c))
+
+first-put : (c : tie.After-put-field3)
+    → Puts (field (decimal (start (word (rows (terms c))) .args .first))) (terms c .put-field2 .result)
+    (terms c .put-field2 .last .1 .0) (c .put-field3 .result)
+    (c .put-field3 .last .1 .0)
+first-put c =
+    let s = start (word (rows (terms c))) in
+    lands (field (decimal (s .args .first))) _ _ (c .put-field3 .ensures)
+    (front-room (field (decimal (s .args .first))) (lf ∷ []) _ (rest₃ (terms c)))
 
 rest₄ : (c : tie.After-put-field3) → c .put-field3 .result + length (lf ∷ []) ≤ length (c .put-field3 .last .1 .0)
-rest₄ c = rest-room (c .put-field3 .ensures) (lf ∷ []) (rest₃ (terms c))
+rest₄ c = rest-room (first-put c) (lf ∷ []) (rest₃ (terms c))
 
 module _ (c : tie.After-put-field3) where
   abbrev s : tie.Start
   s = start (word (rows (terms c)))
 
-  all-put : Puts ((111 ∷ 112 ∷ 98 ∷ []) ++ tail₁ s) 0 (now (s .args .out)) (c .put-field3 .result + 1) (set (c .put-field3 .last .1 .0) (c .put-field3 .result) 10)
+  all-put : Puts ((111 ∷ 112 ∷ 98 ∷ []) ++ tail₁ s) 0 (now (s .args .out)) (c .put-field3 .result + 1)
+      (set (c .put-field3 .last .1 .0) (c .put-field3 .result) 10)
   all-put =
-      puts-then (word (rows (terms c)) .put-text .ensures) (front-room (111 ∷ 112 ∷ 98 ∷ []) (tail₁ s) _ (room s))
-      (puts-then (rows (terms c) .put-field .ensures) (front-room (field (decimal (s .args .rows))) (tail₂ s) _ (rest₁ (word (rows (terms c)))))
-      (puts-then (terms c .put-field2 .ensures) (front-room (field (decimal (s .args .terms))) (tail₃ s) _ (rest₂ (rows (terms c))))
-      (puts-then (c .put-field3 .ensures) (front-room (field (decimal (s .args .first))) (lf ∷ []) _ (rest₃ (terms c)))
+      puts-then (text-put (word (rows (terms c)))) (front-room (111 ∷ 112 ∷ 98 ∷ []) (tail₁ s) _ (room s))
+      (puts-then (rows-put (rows (terms c))) (front-room (field (decimal (s .args .rows))) (tail₂ s) _ (rest₁ (word (rows (terms c)))))
+      (puts-then (terms-put (terms c)) (front-room (field (decimal (s .args .terms))) (tail₃ s) _ (rest₂ (rows (terms c))))
+      (puts-then (first-put c) (front-room (field (decimal (s .args .first))) (lf ∷ []) _ (rest₃ (terms c)))
       (puts-byte 10 _ _ _ (omega (arith, rest₄ c)) refl))))
 
   all-long : length (c .put-field3 .last .1 .0) ≡ length (now (s .args .out))
@@ -73,13 +104,13 @@ put-text-requires : tie.Need-put-text-requires
 put-text-requires c κs = search needs
 
 put-field-requires : tie.Need-put-field-requires
-put-field-requires c κs = let p = c .before .before .before in front-room (field (decimal (start p .args .rows))) (tail₂ (start p)) _ (rest₁ p)
+put-field-requires c κs = search needs
 
 put-field-requires-2 : tie.Need-put-field-requires-2
-put-field-requires-2 c κs = let p = c .before .before .before in let s = start (word p) in front-room (field (decimal (s .args .terms))) (tail₃ s) _ (rest₂ p)
+put-field-requires-2 c κs = search needs
 
 put-field-requires-3 : tie.Need-put-field-requires-3
-put-field-requires-3 c κs = let p = c .before .before .before in let s = start (word (rows p)) in front-room (field (decimal (s .args .first))) (lf ∷ []) _ (rest₃ p)
+put-field-requires-3 c κs = search needs
 
 slice-write-out : tie.Need-slice-write-out
 slice-write-out c = omega (arith, rest₄ (c .before .before))

@@ -5,6 +5,7 @@ use mathlib.Core.List.{List, [], _∷_, _++_}
 use Prim.Native.Nat.{ℕ, _+_, _≤_}
 use lib.ListN.{length, set, length-set}
 use mir.Facts.{toZ-ofZ}
+use borrow.Author.Needs.{needs}
 use denote.Ref.{now}
 use Rattle.definitions.specs.Lists.{joined}
 use Rattle.definitions.specs.Bytes.{lf}
@@ -14,8 +15,9 @@ use Rattle.definitions.specs.Table.{termsOn}
 use Rattle.definitions.specs.House.{termFields, houseLine}
 use Rattle.definitions.proofs.Puts.{Puts, front-room, rest-room, puts-as, puts-then, puts-byte, puts-length}
 use Rattle.columns.specs.Kinds.{readKind}
-use Rattle.house.specs.Words.{wordField}
-use Rattle.house.proofs.Words.{line-words}
+use Rattle.puts.proofs.Lands.{lands}
+use Rattle.house_lengths.specs.Words.{wordField}
+use Rattle.house_lengths.proofs.Words.{line-words}
 use Rattle.house.proofs.lines.put_line.Statement.{statement}
 use Rattle.house.proofs.lines.put_line.Tie as tie
 
@@ -31,8 +33,11 @@ terms s = joined (termFields (s .args .first)) (termsOn (now (s .args .weights))
 abbrev whole : tie.Start → List ℕ
 whole s = word s ++ (bound s ++ (terms s ++ (lf ∷ [])))
 
-words : (s : tie.Start) → houseLine (s .args .first) (row (rowOf (readKind (s .args .kind)) (s .args .bound) (termsOn (now (s .args .weights)) (now (s .args .literals))))) ≡ whole s
-words s = line-words (s .args .first) (readKind (s .args .kind)) (s .args .bound) (termsOn (now (s .args .weights)) (now (s .args .literals)))
+words : (s : tie.Start)
+    → houseLine (s .args .first) (row (rowOf (readKind (s .args .kind)) (s .args .bound)
+    (termsOn (now (s .args .weights)) (now (s .args .literals))))) ≡ whole s
+words s =
+    line-words (s .args .first) (readKind (s .args .kind)) (s .args .bound) (termsOn (now (s .args .weights)) (now (s .args .literals)))
 
 room : (s : tie.Start) → s .args .at + length (whole s) ≤ length (now (s .args .out))
 room s = rw (words s) at (s .pre .room)
@@ -48,8 +53,12 @@ module _ (c : tie.After-put-number) where
   abbrev word-put : tie.After-put-word
   word-put = c .before .before .before .before
 
-  bound-put : Puts (bound (start word-put)) (word-put .put-word .result) (word-put .put-word .last .1 .0) (c .put-number .result) (c .put-number .last .1 .0)
-  bound-put = rw (toZ-ofZ (start word-put .fits .bound)) at (c .put-number .ensures)
+  bound-put : Puts (bound (start word-put)) (word-put .put-word .result) (word-put .put-word .last .1 .0)
+      (c .put-number .result) (c .put-number .last .1 .0)
+  bound-put =
+      let s = start word-put in
+      lands (bound s) _ _ (rw (toZ-ofZ (s .fits .bound)) at (c .put-number .ensures))
+      (front-room (bound s) (terms s ++ (lf ∷ [])) _ (rest₁ word-put))
 
   rest₂ : c .put-number .result + length (terms (start word-put) ++ (lf ∷ [])) ≤ length (c .put-number .last .1 .0)
   rest₂ = rest-room bound-put (terms (start word-put) ++ (lf ∷ [])) (rest₁ word-put)
@@ -64,7 +73,8 @@ module _ (c : tie.After-put-terms) where
   rest₃ : c .put-terms .result + length (lf ∷ []) ≤ length (c .put-terms .last .1 .1 .1 .0)
   rest₃ = rest-room (c .put-terms .ensures) (lf ∷ []) (rest₂ number-put)
 
-  all-put : Puts (whole s) (s .args .at) (now (s .args .out)) (c .put-terms .result + 1) (set (c .put-terms .last .1 .1 .1 .0) (c .put-terms .result) lf)
+  all-put : Puts (whole s) (s .args .at) (now (s .args .out)) (c .put-terms .result + 1)
+      (set (c .put-terms .last .1 .1 .1 .0) (c .put-terms .result) lf)
   all-put =
       puts-then (word-put number-put .put-word .ensures) (front-room (word s) (bound s ++ (terms s ++ (lf ∷ []))) _ (room s))
       (puts-then (bound-put number-put) (front-room (bound s) (terms s ++ (lf ∷ [])) _ (rest₁ (word-put number-put)))
@@ -78,10 +88,11 @@ put-word-requires : tie.Need-put-word-requires
 put-word-requires c κs = let s = c .before .before .before in front-room (word s) (bound s ++ (terms s ++ (lf ∷ []))) _ (room s)
 
 put-number-requires : tie.Need-put-number-requires
-put-number-requires c κs = let p = c .before .before .before in rw (toZ-ofZ (start p .fits .bound)) (front-room (bound (start p)) (terms (start p) ++ (lf ∷ [])) _ (rest₁ p))
+put-number-requires c κs = search needs
 
 put-terms-requires : tie.Need-put-terms-requires
-put-terms-requires c κs = let p = c .before .before .before in let s = start (word-put p) in record { long = s .pre .long; numbers = s .pre .numbers; room = front-room (terms s) (lf ∷ []) _ (rest₂ p) }
+put-terms-requires c κs = let p = c .before .before .before in let s = start (word-put p) in record
+    { long = s .pre .long; numbers = s .pre .numbers; room = front-room (terms s) (lf ∷ []) _ (rest₂ p) }
 
 slice-write-out : tie.Need-slice-write-out
 slice-write-out c = omega (arith, rest₃ (c .before .before))

@@ -7,11 +7,11 @@ use lib.ListN.{length}
 use mir.Facts.{toZ-ofZ}
 use denote.Ref.{now}
 use Rattle.definitions.specs.Row.{Line}
-use Rattle.definitions.specs.Table.{Entry}
+use Rattle.definitions.specs.declared.Entry.{Entry}
 use Rattle.definitions.specs.House.{houseLine}
-use Rattle.house.specs.Words.{commentLine}
-use Rattle.house.proofs.Words.{comment-words}
-use Rattle.house.proofs.Entries.{ReadEntry, accepted-comment, accepted-row}
+use Rattle.house_lengths.specs.Words.{commentLine}
+use Rattle.house_lengths.proofs.Words.{comment-words}
+use Rattle.house_measures.proofs.Entries.{ReadEntry, accepted-comment, accepted-row}
 use borrow.Author.Needs.{needs}
 use Rattle.house.proofs.lines.put_row.Statement.{statement}
 use Rattle.house.proofs.lines.put_row.Tie as tie
@@ -19,7 +19,9 @@ use Rattle.house.proofs.lines.put_row.Tie as tie
 abbrev entry : tie.Start → Entry
 entry s = record { kind = s .args .kind; first = s .args .start; count = s .args .count; bound = s .args .bound }
 
-comment-room : (c : tie.Then1) → c .before .before .before .args .at + length (commentLine (c .before .before .before .args .count)) ≤ length (now (c .before .before .before .args .out))
+comment-room : (c : tie.Then1)
+    → c .before .before .before .args .at + length (commentLine (c .before .before .before .args .count)) ≤ length
+    (now (c .before .before .before .args .out))
 comment-room c =
     let s = c .before .before .before in
     rw (accepted-comment _ _ _ (entry s) (s .pre .line) (s .pre .is) (c .if1 .taken), comment-words) at (s .pre .room)
@@ -28,7 +30,8 @@ module _ (c : tie.Else1) where
   abbrev start : tie.Start
   start = c .before .before .before
 
-  read : ReadEntry (start .args .first) (now (start .args .weights)) (now (start .args .literals)) (entry start) (start .pre .line) (start .pre .is)
+  read : ReadEntry (start .args .first) (now (start .args .weights)) (now (start .args .literals)) (entry start)
+      (start .pre .line) (start .pre .is)
   read = accepted-row _ _ _ (entry start) (start .pre .line) (start .pre .is) (c .if1 .left)
 
   within : start .args .start + start .args .count ≤ min (length (now (start .args .weights))) (length (now (start .args .literals)))
@@ -79,7 +82,12 @@ put-line-requires c κs =
     let s = start d in
     let n : s .args .start + s .args .count - s .args .start ≡ s .args .count = omega arith in
     rw (toZ-ofZ (s .fits .bound), n)
-    (record { long = read d .long; numbers = read d .numbers; room = omega (arith, s .pre .room, ap (λ (l : Line). length (houseLine (s .args .first) l)) (read d .is)) })
+    (record {
+      long = read d .long;
+      numbers = read d .numbers;
+      room = omega
+          (arith, s .pre .room, ap (λ (l : Line). length (houseLine (s .args .first) l)) (read d .is));
+    })
 
 same-length-2 : tie.Need-same-length-2
 same-length-2 c = search needs
@@ -89,7 +97,8 @@ returns-2 c =
     let d = c .before .before .before .before .before .before in
     let s = start d in
     let n : s .args .start + s .args .count - s .args .start ≡ s .args .count = omega arith in
-    λ l q. rw (accepted-row _ _ _ (entry s) l q (d .if1 .left) .is) (rw (toZ-ofZ (s .fits .bound), n) at (c .before .before .put-line .ensures))
+    λ l q. rw (accepted-row _ _ _ (entry s) l q (d .if1 .left) .is)
+    (rw (toZ-ofZ (s .fits .bound), n) at (c .before .before .put-line .ensures))
 
 pub put-row-spec : {M : Type 1} → statement M
 put-row-spec =

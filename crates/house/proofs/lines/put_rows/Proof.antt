@@ -11,13 +11,15 @@ use Rattle.house.proofs.lines.put_rows.Statement.{statement}
 use Rattle.house.proofs.lines.put_rows.Tie as tie
 
 abbrev Inv-loop : tie.InvT-loop
-Inv-loop kinds firsts counts bounds weights literals rows first out₀ at end₀ i₀ out end i = Putting (table kinds firsts counts bounds weights literals) rows first at out₀ i out end
+Inv-loop kinds firsts counts bounds weights literals rows first out₀ at end₀ i₀ out end i =
+    Putting (table kinds firsts counts bounds weights literals) rows first at out₀ i out end
 
 abbrev μ-loop : tie.MeasureT-loop
 μ-loop kinds firsts counts bounds weights literals rows first out₀ at end₀ i₀ out end i = rows - i
 
 abbrev whole : tie.Start Inv-loop μ-loop → Table
-whole s = table (now (s .args .kinds)) (now (s .args .firsts)) (now (s .args .counts)) (now (s .args .bounds)) (now (s .args .weights)) (now (s .args .literals))
+whole s = table (now (s .args .kinds)) (now (s .args .firsts)) (now (s .args .counts)) (now (s .args .bounds))
+    (now (s .args .weights)) (now (s .args .literals))
 
 module _ (c : tie.In-loop Inv-loop μ-loop) where
   abbrev start : tie.Start Inv-loop μ-loop
@@ -53,7 +55,8 @@ shared-slice-copy-out-put-row c = omega (arith, in-table (c .before .before .bef
 put-row-requires : tie.Need-put-row-requires Inv-loop μ-loop
 put-row-requires c κs =
     let d = c .before .before .before .before .before in
-    rw (toZ-ofZ (sfits-of (c .before .put-row-arg .given))) (putting-ready (whole (start d)) (start d .args .rows) (start d .pre) (d .before .loop .inv) (d .loop-test .taken))
+    rw (toZ-ofZ (sfits-of (c .before .put-row-arg .given))) (putting-ready (whole (start d)) (start d .args .rows)
+    (start d .pre) (d .before .loop .inv) (d .loop-test .taken))
 
 add-i : tie.Need-add-i Inv-loop μ-loop
 add-i c = let d = c .before .before .before .before .before .before .before .before in omega (arith, in-table d, start d .good)
@@ -70,7 +73,8 @@ loop-again c =
 same-length : tie.Need-same-length Inv-loop μ-loop
 same-length c =
     let s = c .before .before .before .before .before .before .before in
-    puts-length (putting-all (whole s) (s .args .rows) (s .pre) (c .before .loop .inv) (c .loop-test .left) (s .pre .lines) (s .pre .are)) (s .pre .room)
+    puts-length (putting-all (whole s) (s .args .rows) (s .pre) (c .before .loop .inv) (c .loop-test .left) (s .pre .lines)
+    (s .pre .are)) (s .pre .room)
 
 returns : tie.Need-returns Inv-loop μ-loop
 returns c =

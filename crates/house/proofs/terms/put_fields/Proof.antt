@@ -8,23 +8,28 @@ use denote.Ref.{now}
 use Rattle.definitions.specs.Number.{integerText}
 use Rattle.definitions.specs.House.{field}
 use Rattle.definitions.proofs.Puts.{Puts, puts-length, puts-then, byte-then}
-use Rattle.house.specs.Words.{literalWords}
-use Rattle.house.proofs.Fields.{words-length}
+use Rattle.house_lengths.specs.Words.{literalWords}
+use Rattle.house_lengths.proofs.Fields.{words-length}
+use Rattle.puts.proofs.Lands.{lands}
 use borrow.Author.Needs.{needs}
 use Rattle.house.proofs.terms.put_fields.Statement.{statement}
 use Rattle.house.proofs.terms.put_fields.Tie as tie
 
-room : (s : tie.Start) → s .args .at + (length (integerText (s .args .w)) + length (literalWords (s .args .tilde) (s .args .n .0)) + 2) ≤ length (now (s .args .out))
+room : (s : tie.Start)
+    → s .args .at + (length (integerText (s .args .w)) + length (literalWords (s .args .tilde) (s .args .n .0)) + 2) ≤ length
+    (now (s .args .out))
 room s = omega (arith, s .pre, words-length (s .args .w) (s .args .tilde) (s .args .n .0))
 
 module _ (c : tie.After-put-number) where
   abbrev start : tie.Start
   start = c .before .before .before
 
-  weight-put : Puts (field (integerText (start .args .w))) (start .args .at) (now (start .args .out)) (c .put-number .result) (c .put-number .last .1 .0)
+  weight-put : Puts (field (integerText (start .args .w))) (start .args .at) (now (start .args .out)) (c .put-number .result)
+      (c .put-number .last .1 .0)
   weight-put =
       byte-then 9 (start .args .at) (start .args .at + 1) (now (start .args .out)) (omega (arith, room start)) refl
-      (rw (toZ-ofZ (start .fits .w)) at (c .put-number .ensures))
+      (lands (integerText (start .args .w)) _ _ (rw (toZ-ofZ (start .fits .w)) at (c .put-number .ensures))
+      (simp length-set (omega (arith, room start))))
 
   weight-long : length (c .put-number .last .1 .0) ≡ length (now (start .args .out))
   weight-long = puts-length weight-put (omega (arith, room start))
@@ -36,7 +41,7 @@ add-put-number : tie.Need-add-put-number
 add-put-number c = search needs
 
 put-number-requires : tie.Need-put-number-requires
-put-number-requires c κs = rw (toZ-ofZ (c .before .before .fits .w)) (simp length-set (omega (arith, room (c .before .before))))
+put-number-requires c κs = search needs
 
 put-literal-requires : tie.Need-put-literal-requires
 put-literal-requires c κs = let p = c .before .before .before in omega (arith, room (start p), weight-put p .place, weight-long p)

@@ -7,7 +7,8 @@ use lib.ListN.{length, length-set}
 use denote.Ref.{now}
 use Rattle.definitions.specs.Number.{decimal}
 use Rattle.definitions.proofs.Puts.{byte-then}
-use Rattle.house.specs.Words.{literalWords}
+use Rattle.house_lengths.specs.Words.{literalWords}
+use Rattle.puts.proofs.Lands.{lands}
 use borrow.Author.Needs.{needs}
 use Rattle.house.proofs.terms.put_literal.Statement.{statement}
 use Rattle.house.proofs.terms.put_literal.Tie as tie
@@ -51,7 +52,7 @@ add-put-count : tie.Need-add-put-count
 add-put-count c = search needs
 
 put-count-requires : tie.Need-put-count-requires
-put-count-requires c κs = rw (c .before .number .ensures) (simp length-set (omega (arith, tilde-room (c .before .before))))
+put-count-requires c κs = search needs
 
 same-length : tie.Need-same-length
 same-length c = c .before .before .put-count .kept .1 .0 ∙ simp length-set
@@ -67,7 +68,7 @@ returns c =
     (byte-then 9 (s .args .at) (s .args .at + 1) (now (s .args .out)) (omega (arith, h)) refl
     (byte-then 126 (s .args .at + 1) (s .args .at + 2) _ (simp length-set (omega (arith, h))) (omega arith)
     (byte-then 120 (s .args .at + 2) (s .args .at + 3) _ (simp length-set (omega (arith, h))) (omega arith)
-    (rw (n .number .ensures) at (p .put-count .ensures)))))
+    (lands (decimal (s .args .n .0)) _ _ (rw (n .number .ensures) at (p .put-count .ensures)) (simp length-set (omega (arith, h)))))))
 
 add-out-3 : tie.Need-add-out-3
 add-out-3 c = search needs
@@ -85,7 +86,7 @@ add-put-count-2 : tie.Need-add-put-count-2
 add-put-count-2 c = search needs
 
 put-count-requires-2 : tie.Need-put-count-requires-2
-put-count-requires-2 c κs = rw (c .before .number2 .ensures) (simp length-set (omega (arith, plain-room (c .before .before))))
+put-count-requires-2 c κs = search needs
 
 same-length-2 : tie.Need-same-length-2
 same-length-2 c = c .before .before .put-count2 .kept .1 .0 ∙ simp length-set
@@ -100,7 +101,7 @@ returns-2 c =
     rw (d .if1 .left)
     (byte-then 9 (s .args .at) (s .args .at + 1) (now (s .args .out)) (omega (arith, h)) refl
     (byte-then 120 (s .args .at + 1) (s .args .at + 2) _ (simp length-set (omega (arith, h))) (omega arith)
-    (rw (n .number2 .ensures) at (p .put-count2 .ensures))))
+    (lands (decimal (s .args .n .0)) _ _ (rw (n .number2 .ensures) at (p .put-count2 .ensures)) (simp length-set (omega (arith, h))))))
 
 pub put-literal-spec : {M : Type 1} → statement M
 put-literal-spec =

@@ -9,9 +9,9 @@ use Rattle.definitions.specs.Literal.{indexOf, negated, fileNumber}
 use Rattle.definitions.specs.Row.{term}
 use Rattle.definitions.specs.House.{termFields}
 use Rattle.definitions.proofs.Puts.{puts-as}
-use Rattle.symbols.specs.Said.{saidFileNumber}
-use Rattle.house.specs.Words.{termWords}
-use Rattle.house.proofs.Fields.{number-is, no-number, not-both, term-words}
+use Rattle.literals.specs.Said.{saidFileNumber}
+use Rattle.house_lengths.specs.Words.{termWords}
+use Rattle.house_lengths.proofs.Fields.{number-is, no-number, not-both, term-words}
 use borrow.Author.Needs.{needs}
 use Rattle.house.proofs.terms.put_term.Statement.{statement}
 use Rattle.house.proofs.terms.put_term.Tie as tie
@@ -27,7 +27,8 @@ module _ (c : tie.After-n) where
   abbrev s : tie.Start
   s = start (c .before .before)
 
-  words : termWords (s .args .w) (negated (s .args .l .0)) (c .n .given .0 .0 .0) ≡ termFields (s .args .first) (term (s .args .w) (s .args .l .0))
+  words : termWords (s .args .w) (negated (s .args .l .0)) (c .n .given .0 .0 .0) ≡ termFields (s .args .first)
+      (term (s .args .w) (s .args .l .0))
   words = term-words (s .args .first) (s .args .w) (s .args .l .0) _ (number-is _ _ _ (said (c .before .before)) _ (c .n .given .1) .0)
 
 var-requires : tie.Need-var-requires
@@ -45,7 +46,8 @@ is-neg-requires c κs = search needs
 put-fields-requires : tie.Need-put-fields-requires
 put-fields-requires c κs =
     let n = c .before .before .before in
-    let h : s n .args .at + length (termWords (s n .args .w) (negated (s n .args .l .0)) (n .n .given .0 .0 .0)) ≤ length (now (s n .args .out)) = omega (arith, s n .pre .room, ap length (words n)) in
+    let h : s n .args .at + length (termWords (s n .args .w) (negated (s n .args .l .0)) (n .n .given .0 .0 .0)) ≤ length
+    (now (s n .args .out)) = omega (arith, s n .pre .room, ap length (words n)) in
     rw (toZ-ofZ (s n .fits .w), c .before .is-neg .ensures) h
 
 enum-told : tie.Need-enum-told

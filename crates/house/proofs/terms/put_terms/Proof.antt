@@ -1,4 +1,4 @@
--- `put_terms` meets its contract: each turn puts one term behind the others (`TermsAt`, proofs/Fields.antt).
+-- `put_terms` meets its contract: each turn puts one term behind the others (`TermsAt`, house_measures' proofs/TermsWalk.antt).
 use native.Mathlib.Omega.{arith}
 use mathlib.Core.Path.{_≡_, sym, ap, subst}
 use Prim.Native.Nat.{ℕ, _+_, _-_, _≤_}
@@ -13,7 +13,7 @@ use Rattle.definitions.specs.Row.{term}
 use Rattle.definitions.specs.House.{termFields}
 use Rattle.definitions.proofs.Puts.{Puts, puts-none, puts-then, puts-as, puts-length}
 use Rattle.house.specs.Ready.{TermReady}
-use Rattle.house.proofs.Fields.{TermsAt, terms-none, terms-more, terms-within, terms-number, terms-all}
+use Rattle.house_measures.proofs.TermsWalk.{TermsAt, terms-none, terms-more, terms-within, terms-number, terms-all}
 use Rattle.house.proofs.terms.put_terms.Statement.{statement}
 use Rattle.house.proofs.terms.put_terms.Tie as tie
 
@@ -34,7 +34,12 @@ module _ (c : tie.After-put-term-arg2 Inv-loop μ-loop) where
   weight-fits = sfits-of (c .before .before .before .put-term-arg .given)
 
   text-fits : start .args .at + length (turn .loop .inv .text) ≤ length (now (start .args .out))
-  text-fits = omega (arith, start .pre .room, terms-within (turn .loop .inv) (start .pre .long) (c .before .before .before .before .loop-test .taken))
+  text-fits = omega (
+    arith,
+    start .pre .room,
+    terms-within (turn .loop .inv) (start .pre .long)
+        (c .before .before .before .before .loop-test .taken),
+  )
 
   so-long : length (turn .loop .out) ≡ length (now (start .args .out))
   so-long = puts-length (turn .loop .inv .holds) text-fits
@@ -65,7 +70,14 @@ put-term-requires c κs =
     (subst (λ (l : ℕ). TermReady (start c .args .first) w l (turn c .loop .end) (turn c .loop .out)) (sym (c .before .of-code .ensures))
     (record {
       number = terms-number (turn c .loop .inv) (start c .pre .long) h (start c .pre .numbers);
-      room = omega (arith, start c .pre .room, turn c .loop .inv .holds .place, so-long c, terms-within (turn c .loop .inv) (start c .pre .long) h);
+      room = omega (
+        arith,
+        start c .pre .room,
+        turn c .loop .inv .holds .place,
+        so-long c,
+        terms-within (turn c .loop .inv)
+            (start c .pre .long) h,
+      );
     }))
 
 add-i : tie.Need-add-i Inv-loop μ-loop
@@ -82,10 +94,12 @@ loop-again c =
     terms-more t (start d .pre .long) h (terms-number t (start d .pre .long) h (start d .pre .numbers))
     (puts-then (t .holds) (text-fits d)
     (puts-as (rw (toZ-ofZ (weight-fits d)) at (c .before .before .put-term .ensures))
-    (ap (λ (l : ℕ). termFields (start d .args .first) (term (getD (now (start d .args .weights)) (turn d .loop .i) (pos 0)) l)) (d .before .of-code .ensures))))
+    (ap (λ (l : ℕ). termFields (start d .args .first) (term (getD (now (start d .args .weights)) (turn d .loop .i) (pos 0)) l))
+    (d .before .of-code .ensures))))
 
 same-length : tie.Need-same-length Inv-loop μ-loop
-same-length c = let s = c .before .before .before .before in puts-length (terms-all (c .before .loop .inv) (s .pre .long) (c .loop-test .left)) (s .pre .room)
+same-length c = let s = c .before .before .before .before in puts-length
+    (terms-all (c .before .loop .inv) (s .pre .long) (c .loop-test .left)) (s .pre .room)
 
 returns : tie.Need-returns Inv-loop μ-loop
 returns c = terms-all (c .before .loop .inv) (c .before .before .before .before .pre .long) (c .loop-test .left)

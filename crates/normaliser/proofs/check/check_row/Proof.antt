@@ -1,5 +1,5 @@
--- `normaliser::check::check_row` meets its contract: a comment, a kind that is not read, terms outside their columns, or the row's terms, whose parts are handed
--- on (proofs/Entries.antt). Assumes nothing.
+-- `normaliser::check::check_row` meets its contract: a comment, a kind that is not read, terms outside their columns, or the row's
+-- terms, whose parts are handed on (proofs/Entries.antt). Assumes nothing.
 use mathlib.Core.Path.{_≡_, sym, ap, _∙_}
 use mathlib.Core.Bool.{true}
 use Prim.Native.Nat.{_+_, _-_, _≤_, min}
@@ -10,7 +10,7 @@ use denote.Ref.{now}
 use lib.Dec.{leb}
 use lib.ListN.{length}
 use mir.Facts.{toZ-ofZ}
-use Rattle.definitions.specs.Table.{Entry}
+use Rattle.definitions.specs.declared.Entry.{Entry}
 use Rattle.normaliser.specs.Parts.{termCount}
 use Rattle.normaliser.proofs.Entries.{of-comment, of-unread, of-outside, check-inside}
 use Rattle.normaliser.proofs.check.check_row.Statement.{statement}
@@ -24,7 +24,9 @@ start c = c .before .before .before .before .before
 
 -- what the test of the column says
 tested : (c : tie.After-in-column)
-    → c .in-column .result ≡ leb (start c .args .first + start c .args .count) (min (length (now (start c .args .weights))) (length (now (start c .args .literals))))
+    → c .in-column .result
+    ≡ leb (start c .args .first + start c .args .count)
+    (min (length (now (start c .args .weights))) (length (now (start c .args .literals))))
 tested c = c .in-column .ensures ∙ ap (leb (start c .args .first + start c .args .count)) (c .before .term-room .ensures)
 
 within : (c : tie.Else3)
@@ -35,13 +37,19 @@ within c = sym (tested (c .before)) ∙ not-false _ (c .if3 .left)
 ends : (c : tie.Else3)
     → start (c .before) .args .first + start (c .before) .args .count
     ≤ min (length (now (start (c .before) .args .weights))) (length (now (start (c .before) .args .literals)))
-ends c = let a = start (c .before) .args in leb-true (a .first + a .count) (min (length (now (a .weights))) (length (now (a .literals)))) (within c)
+ends c =
+    let a = start (c .before) .args in
+    leb-true (a .first + a .count) (min (length (now (a .weights))) (length (now (a .literals)))) (within c)
 
 returns : tie.Need-returns
-returns c = let s = c .before .before in sym (ap termCount (of-comment (now (s .args .weights)) (now (s .args .literals)) (entry s) (c .if1 .taken)))
+returns c =
+    let s = c .before .before in
+    sym (ap termCount (of-comment (now (s .args .weights)) (now (s .args .literals)) (entry s) (c .if1 .taken)))
 
 returns-2 : tie.Need-returns-2
-returns-2 c = let s = c .before .before .before in sym (ap termCount (of-unread (now (s .args .weights)) (now (s .args .literals)) (entry s) (c .if2 .taken)))
+returns-2 c =
+    let s = c .before .before .before in
+    sym (ap termCount (of-unread (now (s .args .weights)) (now (s .args .literals)) (entry s) (c .if2 .taken)))
 
 term-room-requires : tie.Need-term-room-requires
 term-room-requires c κs = search needs
@@ -54,7 +62,8 @@ returns-3 c =
     let d = c .before in
     let s = start d in
     sym (ap termCount
-    (of-outside (now (s .args .weights)) (now (s .args .literals)) (entry s) (d .before .before .before .if1 .left) (d .before .before .if2 .left)
+    (of-outside (now (s .args .weights)) (now (s .args .literals)) (entry s) (d .before .before .before .if1 .left)
+    (d .before .before .if2 .left)
     (sym (tested d) ∙ not-true _ (c .if3 .taken))))
 
 add-end : tie.Need-add-end
@@ -93,7 +102,8 @@ returns-4 c =
     let d = e .before in
     let s = start d in
     let n : s .args .first + s .args .count - s .args .first ≡ s .args .count = omega arith in
-    rw (check-inside (now (s .args .weights)) (now (s .args .literals)) (entry s) (d .before .before .before .if1 .left) (d .before .before .if2 .left) (within e))
+    rw (check-inside (now (s .args .weights)) (now (s .args .literals)) (entry s) (d .before .before .before .if1 .left)
+    (d .before .before .if2 .left) (within e))
     (rw (toZ-ofZ (s .fits .bound), n) at (c .check-terms .ensures))
 
 pub check-row-spec : {M : Type 1} → statement M

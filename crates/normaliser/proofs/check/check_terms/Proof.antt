@@ -1,4 +1,5 @@
--- `normaliser::check::check_terms` meets its contract: each refusal is where the definition gives it, in its order (proofs/Checks.antt). Assumes nothing.
+-- `normaliser::check::check_terms` meets its contract: each refusal is where the definition gives it, in its order
+-- (proofs/Checks.antt). Assumes nothing.
 use mathlib.Core.Path.{_≡_, sym, _∙_}
 use mathlib.Core.Bool.{true}
 use Prim.Native.Nat.{_≤_}
@@ -34,7 +35,9 @@ small c = omega (arith, c .before .sizes-of .ensures)
 
 -- what is said of the bound
 tested : (c : tie.After-sum-fits)
-    → c .sum-fits .result ≡ inI64 (start-2 (c .before .before) .args .bound +ℤ shiftBy (readKind (start-2 (c .before .before) .args .kind)) (weightRises (now (start-2 (c .before .before) .args .weights))))
+    → c .sum-fits .result
+    ≡ inI64 (start-2 (c .before .before) .args .bound
+    +ℤ shiftBy (readKind (start-2 (c .before .before) .args .kind)) (weightRises (now (start-2 (c .before .before) .args .weights))))
 tested c =
     let s = start-2 (c .before .before) in
     let f : SFits w64 (c .before .shift-of .result) = record { sfits = c .before .shift-of .ok } in
@@ -46,7 +49,8 @@ indexed-of-requires c κs = search needs
 returns : tie.Need-returns
 returns c =
     let a = c .before .before .before .args in
-    terms-unindexed (a .kind) (a .bound) (now (a .weights)) (now (a .literals)) (sym (c .before .indexed-of .ensures) ∙ not-true _ (c .if1 .taken))
+    terms-unindexed (a .kind) (a .bound) (now (a .weights)) (now (a .literals))
+    (sym (c .before .indexed-of .ensures) ∙ not-true _ (c .if1 .taken))
 
 sizes-of-requires : tie.Need-sizes-of-requires
 sizes-of-requires c κs = search needs
@@ -67,13 +71,15 @@ returns-3 : tie.Need-returns-3
 returns-3 c =
     let d = c .before .before .before in
     let a = start-2 d .args in
-    terms-beyond (a .kind) (a .bound) (now (a .weights)) (now (a .literals)) (indexes (d .before .before)) (small d) (sym (tested (c .before)) ∙ not-true _ (c .if3 .taken))
+    terms-beyond (a .kind) (a .bound) (now (a .weights)) (now (a .literals)) (indexes (d .before .before)) (small d)
+    (sym (tested (c .before)) ∙ not-true _ (c .if3 .taken))
 
 returns-4 : tie.Need-returns-4
 returns-4 c =
     let d = c .before .before .before in
     let a = start-2 d .args in
-    terms-accepted (a .kind) (a .bound) (now (a .weights)) (now (a .literals)) (indexes (d .before .before)) (small d) (sym (tested (c .before)) ∙ not-false _ (c .if3 .left))
+    terms-accepted (a .kind) (a .bound) (now (a .weights)) (now (a .literals)) (indexes (d .before .before)) (small d)
+    (sym (tested (c .before)) ∙ not-false _ (c .if3 .left))
 
 pub check-terms-spec : {M : Type 1} → statement M
 check-terms-spec =

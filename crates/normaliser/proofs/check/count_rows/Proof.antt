@@ -1,5 +1,5 @@
--- `normaliser::check::count_rows` meets its contract. The loop's invariant: the rows before i passed, with the terms that they need (`Counts`,
--- proofs/Checks.antt). The measure is what is left of the rows. Assumes nothing.
+-- `normaliser::check::count_rows` meets its contract. The loop's invariant: the rows before i passed, with the terms that they need
+-- (`Counts`, proofs/Checks.antt). The measure is what is left of the rows. Assumes nothing.
 use mathlib.Core.Path.{_≡_, sym, ap, _∙_}
 use Prim.Native.Nat.{_-_, _≤_, _<_}
 use native.Mathlib.Omega.{arith}
@@ -10,6 +10,7 @@ use lib.ListN.{getD}
 use mir.Syntax.{w64}
 use mir.Val.{SFits}
 use mir.Facts.{toZ-ofZ}
+use Rattle.definitions.specs.Answers.{saidCounted}
 use Rattle.definitions.specs.Table.{Table, table, rowRoom}
 use Rattle.definitions.specs.Normal.{normalIn}
 use Rattle.columns.proofs.Terms.{entryAt}
@@ -20,7 +21,8 @@ use Rattle.normaliser.proofs.check.count_rows.Statement.{statement}
 use Rattle.normaliser.proofs.check.count_rows.Tie as tie
 
 abbrev Inv-loop : tie.InvT-loop
-Inv-loop kinds firsts counts bounds weights literals rows terms₀ i₀ terms i = (i ≤ rows) × Counts (table kinds firsts counts bounds weights literals) i terms
+Inv-loop kinds firsts counts bounds weights literals rows terms₀ i₀ terms i = (i ≤ rows)
+    × Counts (table kinds firsts counts bounds weights literals) i terms
 
 abbrev μ-loop : tie.MeasureT-loop
 μ-loop kinds firsts counts bounds weights literals rows terms₀ i₀ terms i = rows - i
@@ -43,7 +45,8 @@ turn c = c .before .before .before .before .before
 
 -- what is said of the row
 checked : (c : tie.After-check-row Inv-loop μ-loop)
-    → saidRow (c .check-row .result) ≡ termCount (normalIn (lent (turn c .before)) (entryAt (lent (turn c .before)) (turn c .before .loop .i)))
+    → saidRow (c .check-row .result)
+    ≡ termCount (normalIn (lent (turn c .before)) (entryAt (lent (turn c .before)) (turn c .before .loop .i)))
 checked c =
     let l = turn c .before in
     let f : SFits w64 (getD (lent l .bounds) (l .loop .i) (pos 0)) = record { sfits = c .before .check-row-arg .given } in
@@ -82,11 +85,17 @@ check-row-requires c κs = search needs
 enum-known-number : tie.Need-enum-known-number Inv-loop μ-loop
 enum-known-number c = search needs
 
+refused-requires : tie.Need-refused-requires Inv-loop μ-loop
+refused-requires c κs = search needs
+
 returns : tie.Need-returns Inv-loop μ-loop
 returns c =
-    let d = c .before .before .before in
+    let k = c .before in
+    let d = k .before .before .before in
     let l = turn d .before in
-    counts-refused (lent l) (l .loop .i) (l .loop .terms) (l .loop .inv .1) (below (turn d)) _ (ap saidRow (sym (c .before .number .given .1)) ∙ checked d)
+    ap saidCounted (c .refused .ensures)
+    ∙ counts-refused (lent l) (l .loop .i) (l .loop .terms) (l .loop .inv .1) (below (turn d)) _
+    (ap saidRow (sym (k .before .number .given .1)) ∙ checked d)
 
 enum-known-n : tie.Need-enum-known-n Inv-loop μ-loop
 enum-known-n c = search needs
@@ -106,14 +115,16 @@ loop-again c =
     let l = turn d .before in (
       omega (arith, turn d .loop-test .taken),
       rw (c .add-needed .ensures)
-          (counts-more (lent l) (l .loop .i) (l .loop .terms) (l .loop .inv .1) (below (turn d)) _ (ap saidRow (sym (c .before .before .n .given .1)) ∙ checked d)),
+          (counts-more (lent l) (l .loop .i) (l .loop .terms) (l .loop .inv .1) (below (turn d)) _
+          (ap saidRow (sym (c .before .before .n .given .1)) ∙ checked d)),
     )
 
 returns-2 : tie.Need-returns-2 Inv-loop μ-loop
 returns-2 c =
     let l = c .before in
     let e : l .before .row-room .result ≡ rowRoom (lent l) = l .before .row-room .ensures in
-    rw e (counts-all (lent l) (l .loop .i) (l .loop .terms) (l .loop .inv .1) (omega (arith, c .loop-test .left)) (omega (arith, l .loop .inv .0)))
+    rw e (counts-all (lent l) (l .loop .i) (l .loop .terms) (l .loop .inv .1) (omega (arith, c .loop-test .left))
+    (omega (arith, l .loop .inv .0)))
 
 pub count-rows-spec : {M : Type 1} → statement M
 count-rows-spec =
@@ -132,6 +143,7 @@ count-rows-spec =
     shared-slice-copy-out-check-row
     check-row-requires
     enum-known-number
+    refused-requires
     returns
     enum-known-n
     add-needed-requires

@@ -13,7 +13,8 @@ magnitude-requires c κs = search needs
 returns : tie.Need-returns
 returns c =
     let s = c .before .before in
-    c .magnitude .ensures ∙ ap natAbs (toZ-ofZ (s .fits .weight)) ∙ rise-below (s .args .weight) (rw (toZ-ofZ (s .fits .weight)) at (c .before .if1 .taken))
+    c .magnitude .ensures ∙ ap natAbs (toZ-ofZ (s .fits .weight))
+    ∙ rise-below (s .args .weight) (rw (toZ-ofZ (s .fits .weight)) at (c .before .if1 .taken))
 
 returns-2 : tie.Need-returns-2
 returns-2 c = let s = c .before in rise-from-zero (s .args .weight) (rw (toZ-ofZ (s .fits .weight)) at (c .if1 .left))

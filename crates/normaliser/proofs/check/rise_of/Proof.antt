@@ -1,5 +1,5 @@
--- `normaliser::check::rise_of` meets its contract. The loop's invariant: the rise so far and that of the weights left are the whole (`Risen`, proofs/Rises.antt).
--- The measure is what is left of the length. Assumes nothing.
+-- `normaliser::check::rise_of` meets its contract. The loop's invariant: the rise so far and that of the weights left are the whole
+-- (`Risen`, proofs/Rises.antt). The measure is what is left of the length. Assumes nothing.
 use Prim.Native.Nat.{_+_, _-_}
 use native.Mathlib.Omega.{arith}
 use borrow.Author.Needs.{needs, scaled-fits}
@@ -31,7 +31,9 @@ shared-slice-copy-out-rise-by c = omega arith
 rise-by-requires : tie.Need-rise-by-requires Inv-loop μ-loop
 rise-by-requires c κs = search needs
 
-more : (c : tie.After-rise-by Inv-loop μ-loop) → Risen (now (c .before .before .before .before .args .weights)) (c .before .before .before .loop .i + 1) (c .before .before .before .loop .rise + c .rise-by .result)
+more : (c : tie.After-rise-by Inv-loop μ-loop)
+    → Risen (now (c .before .before .before .before .args .weights)) (c .before .before .before .loop .i + 1)
+    (c .before .before .before .loop .rise + c .rise-by .result)
 more c =
     let l = c .before .before .before .loop in
     let ws = now (c .before .before .before .before .args .weights) in

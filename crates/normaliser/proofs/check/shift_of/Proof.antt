@@ -1,5 +1,5 @@
--- `normaliser::check::shift_of` meets its contract: the rise is at most the absolute weights together, so it and its opposite are in 64 signed bits.
--- Assumes nothing.
+-- `normaliser::check::shift_of` meets its contract: the rise is at most the absolute weights together, so it and its opposite are
+-- in 64 signed bits. Assumes nothing.
 use mathlib.Core.Path.{sym, ap, _∙_}
 use mathlib.Core.Logic.{inl, inr, ⊎-elim}
 use Prim.Native.Nat.{ℕ, _<_, _^_}
@@ -40,7 +40,8 @@ returns-2 : tie.Need-returns-2
 returns-2 c =
     let d = c .before in
     rw (neg-is (d .rise-of .result) (small d), toZ-ofZ (negative d))
-    (ap (λ (n : ℕ). negℤ (pos n)) (d .rise-of .ensures) ∙ sym (shift-objective (d .before .args .kind) _ (⊎-elim (λ w. inl (omega arith)) (λ w. inr (omega arith)) (c .if1 .came))))
+    (ap (λ (n : ℕ). negℤ (pos n)) (d .rise-of .ensures)
+    ∙ sym (shift-objective (d .before .args .kind) _ (⊎-elim (λ w. inl (omega arith)) (λ w. inr (omega arith)) (c .if1 .came))))
 
 pub shift-of-spec : {M : Type 1} → statement M
 shift-of-spec = tie.close (tie.spec rise-of-requires cast-rise sub-result returns returns-2)

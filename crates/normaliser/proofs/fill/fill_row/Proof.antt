@@ -1,5 +1,5 @@
--- `normaliser::fill::fill_row` meets its contract: a comment as it is, or the row's terms, whose parts are handed on, and its bound moved (proofs/Fills.antt).
--- Assumes nothing.
+-- `normaliser::fill::fill_row` meets its contract: a comment as it is, or the row's terms, whose parts are handed on, and its bound
+-- moved (proofs/Fills.antt). Assumes nothing.
 use mathlib.Core.Path.{_≡_}
 use mathlib.Core.List.{List}
 use Prim.Native.Nat.{ℕ, _+_, _-_, _≤_, min}
@@ -11,7 +11,7 @@ use lib.ListN.{length, take, drop}
 use mir.Syntax.{w64}
 use mir.Val.{SFits, toZ, ofZ}
 use mir.Facts.{toZ-ofZ}
-use Rattle.definitions.specs.Table.{Entry}
+use Rattle.definitions.specs.declared.Entry.{Entry}
 use Rattle.definitions.proofs.Whole.{true-in}
 use Rattle.columns.specs.Kinds.{readKind}
 use Rattle.normaliser.specs.Parts.{weightRises, shiftBy}
@@ -27,8 +27,12 @@ entry s = record { kind = s .args .kind; first = s .args .first; count = s .args
 abbrev start : tie.Else1 → tie.Start
 start c = c .before .before .before
 
-ends : (c : tie.Else1) → start c .args .first + start c .args .count ≤ min (length (now (start c .args .weights))) (length (now (start c .args .literals)))
-ends c = let s = start c in row-within (now (s .args .weights)) (now (s .args .literals)) (entry s) (now (s .args .outweights)) (now (s .args .outliterals)) (c .if1 .left) (s .pre)
+ends : (c : tie.Else1)
+    → start c .args .first + start c .args .count ≤ min (length (now (start c .args .weights))) (length (now (start c .args .literals)))
+ends c =
+    let s = start c in
+    row-within (now (s .args .weights)) (now (s .args .literals)) (entry s) (now (s .args .outweights)) (now (s .args .outliterals))
+    (c .if1 .left) (s .pre)
 
 abbrev back : tie.After-slice-known2 → tie.Else1
 back c = c .before .before .before .before .before .before .before .before
@@ -42,20 +46,26 @@ literalsPart s = take (s .args .first + s .args .count - s .args .first) (drop (
 counted : (s : tie.Start) → s .args .first + s .args .count - s .args .first ≡ s .args .count
 counted s = omega arith
 
-ready : (c : tie.Else1) → TermsReady (weightsPart (start c)) (literalsPart (start c)) (now (start c .args .outweights)) (now (start c .args .outliterals))
+ready : (c : tie.Else1)
+    → TermsReady (weightsPart (start c)) (literalsPart (start c)) (now (start c .args .outweights)) (now (start c .args .outliterals))
 ready c =
     let s = start c in
-    rw (counted s) (row-ready (now (s .args .weights)) (now (s .args .literals)) (entry s) (now (s .args .outweights)) (now (s .args .outliterals)) (c .if1 .left) (s .pre))
+    rw (counted s) (row-ready (now (s .args .weights)) (now (s .args .literals)) (entry s) (now (s .args .outweights))
+    (now (s .args .outliterals)) (c .if1 .left) (s .pre))
 
 -- the bound, moved
-moves : (c : tie.After-shift-of) → toZ w64 (ofZ w64 (start (back (c .before .before)) .args .bound)) +ℤ toZ w64 (ofZ w64 (c .shift-of .result))
-    ≡ start (back (c .before .before)) .args .bound +ℤ shiftBy (readKind (start (back (c .before .before)) .args .kind)) (weightRises (weightsPart (start (back (c .before .before)))))
+moves : (c : tie.After-shift-of)
+    → toZ w64 (ofZ w64 (start (back (c .before .before)) .args .bound)) +ℤ toZ w64 (ofZ w64 (c .shift-of .result))
+    ≡ start (back (c .before .before)) .args .bound
+    +ℤ shiftBy (readKind (start (back (c .before .before)) .args .kind)) (weightRises (weightsPart (start (back (c .before .before)))))
 moves c =
     let s = start (back (c .before .before)) in
     let f : SFits w64 (c .shift-of .result) = record { sfits = c .shift-of .ok } in
     rw (toZ-ofZ (s .fits .bound), toZ-ofZ f, c .shift-of .ensures)
 
-fits : (c : tie.After-shift-of) → SFits w64 (start (back (c .before .before)) .args .bound +ℤ shiftBy (readKind (start (back (c .before .before)) .args .kind)) (weightRises (weightsPart (start (back (c .before .before))))))
+fits : (c : tie.After-shift-of)
+    → SFits w64 (start (back (c .before .before)) .args .bound
+    +ℤ shiftBy (readKind (start (back (c .before .before)) .args .kind)) (weightRises (weightsPart (start (back (c .before .before))))))
 fits c =
     let d = back (c .before .before) in
     let s = start d in
@@ -66,7 +76,8 @@ returns : tie.Need-returns
 returns c =
     let s = c .before .before .before in
     rw (toZ-ofZ (s .fits .bound))
-    (filled-comment (now (s .args .weights)) (now (s .args .literals)) (entry s) (now (s .args .outweights)) (now (s .args .outliterals)) (s .args .term) (c .if1 .taken))
+    (filled-comment (now (s .args .weights)) (now (s .args .literals)) (entry s) (now (s .args .outweights))
+    (now (s .args .outliterals)) (s .args .term) (c .if1 .taken))
 
 add-end : tie.Need-add-end
 add-end c = omega (arith, ends c, start c .good)
@@ -128,7 +139,8 @@ returns-2 c =
     let s = start d in
     let e = c .before .before .before .before .before .fill-terms .ensures in
     rw (moves c, toZ-ofZ (fits c), counted s)
-    (filled-row (now (s .args .weights)) (now (s .args .literals)) (entry s) (now (s .args .outweights)) (now (s .args .outliterals)) (s .args .term) (d .if1 .left) _ _ (rw (counted s) at e))
+    (filled-row (now (s .args .weights)) (now (s .args .literals)) (entry s) (now (s .args .outweights)) (now (s .args .outliterals))
+    (s .args .term) (d .if1 .left) _ _ (rw (counted s) at e))
 
 pub fill-row-spec : {M : Type 1} → statement M
 fill-row-spec =

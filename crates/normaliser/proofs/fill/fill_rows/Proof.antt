@@ -1,5 +1,5 @@
--- `normaliser::fill::fill_rows` meets its contract. The loop's invariant: the rows before i are filled, with their terms (`Filling`, proofs/Fills.antt). The
--- measure is what is left of the rows. Assumes nothing.
+-- `normaliser::fill::fill_rows` meets its contract. The loop's invariant: the rows before i are filled, with their terms
+-- (`Filling`, proofs/Fills.antt). The measure is what is left of the rows. Assumes nothing.
 use Prim.Native.Nat.{_-_, _≤_, _<_}
 use native.Mathlib.Omega.{arith}
 use borrow.Author.Needs.{needs}
@@ -13,17 +13,23 @@ use Rattle.definitions.specs.Row.{Line}
 use Rattle.definitions.specs.Table.{Table, table, rowRoom}
 use Rattle.normaliser.specs.Fill.{LineFilled}
 use Rattle.definitions.proofs.Columns.{Lengths}
-use Rattle.normaliser.proofs.Fills.{Filling, filling-none, filling-lengths, filling-all, line, line-accepted, Fit, filling-fit, filling-ready, filling-more}
+use Rattle.normaliser.proofs.Fills.{Filling, filling-none, filling-lengths, filling-all, line, line-accepted, Fit}
+use Rattle.normaliser.proofs.Fills.{filling-fit, filling-ready, filling-more}
 use Rattle.normaliser.proofs.fill.fill_rows.Statement.{statement}
 use Rattle.normaliser.proofs.fill.fill_rows.Tie as tie
 
 abbrev Inv-loop : tie.InvT-loop
-Inv-loop kinds firsts counts bounds weights literals outkinds₀ outfirsts₀ outcounts₀ outbounds₀ outweights₀ outliterals₀ rows term₀ i₀ outkinds outfirsts outcounts outbounds outweights outliterals term i =
+Inv-loop kinds firsts counts bounds weights literals outkinds₀ outfirsts₀ outcounts₀ outbounds₀ outweights₀ outliterals₀ rows term₀ i₀
+    outkinds outfirsts outcounts outbounds outweights outliterals term i =
     (i ≤ rows)
-    × Filling (table kinds firsts counts bounds weights literals) (table outkinds₀ outfirsts₀ outcounts₀ outbounds₀ outweights₀ outliterals₀) i term (table outkinds outfirsts outcounts outbounds outweights outliterals)
+    × Filling (table kinds firsts counts bounds weights literals)
+    (table outkinds₀ outfirsts₀ outcounts₀ outbounds₀ outweights₀ outliterals₀) i term
+    (table outkinds outfirsts outcounts outbounds outweights outliterals)
 
 abbrev μ-loop : tie.MeasureT-loop
-μ-loop kinds firsts counts bounds weights literals outkinds₀ outfirsts₀ outcounts₀ outbounds₀ outweights₀ outliterals₀ rows term₀ i₀ outkinds outfirsts outcounts outbounds outweights outliterals term i = rows - i
+μ-loop kinds firsts counts bounds weights literals outkinds₀ outfirsts₀ outcounts₀ outbounds₀ outweights₀ outliterals₀ rows term₀ i₀
+    outkinds outfirsts outcounts outbounds outweights outliterals term i =
+    rows - i
 
 -- ---- where the function stands
 
@@ -31,7 +37,9 @@ abbrev start : tie.At-loop Inv-loop μ-loop → tie.Start Inv-loop μ-loop
 start c = c .before .before .before .before .before .before .before .before .before .before
 
 abbrev lent : tie.At-loop Inv-loop μ-loop → Table
-lent c = let a = start c .args in table (now (a .kinds)) (now (a .firsts)) (now (a .counts)) (now (a .bounds)) (now (a .weights)) (now (a .literals))
+lent c =
+    let a = start c .args in
+    table (now (a .kinds)) (now (a .firsts)) (now (a .counts)) (now (a .bounds)) (now (a .weights)) (now (a .literals))
 
 abbrev given : tie.At-loop Inv-loop μ-loop → Table
 given c =
@@ -47,7 +55,9 @@ lengths c = filling-lengths (lent c) (given c) (start c .pre) (c .loop .i) (c .l
 below : (c : tie.In-loop Inv-loop μ-loop) → c .before .loop .i < rowRoom (lent (c .before))
 below c = omega (arith, c .loop-test .taken, c .before .before .row-room .ensures)
 
-fit : (c : tie.In-loop Inv-loop μ-loop) → Fit (lent (c .before)) (given (c .before)) (start (c .before) .pre) (c .before .loop .i) (c .before .loop .term) (held (c .before)) (c .before .loop .inv .1) (below c)
+fit : (c : tie.In-loop Inv-loop μ-loop)
+    → Fit (lent (c .before)) (given (c .before)) (start (c .before) .pre) (c .before .loop .i) (c .before .loop .term)
+    (held (c .before)) (c .before .loop .inv .1) (below c)
 fit c = let l = c .before in filling-fit (lent l) (given l) (start l .pre) (l .loop .i) (l .loop .term) (held l) (l .loop .inv .1) (below c)
 
 abbrev turn : tie.After-struct-told Inv-loop μ-loop → tie.In-loop Inv-loop μ-loop
@@ -63,8 +73,10 @@ called c = c .before .before .before .before .before .before .before
 
 wrote : (c : tie.After-fill-row Inv-loop μ-loop)
     → LineFilled (line-at (called c)) (called c .before .loop .term)
-    (take (length (called c .before .loop .outweights) - called c .before .loop .term) (drop (called c .before .loop .term) (called c .before .loop .outweights)))
-    (take (length (called c .before .loop .outliterals) - called c .before .loop .term) (drop (called c .before .loop .term) (called c .before .loop .outliterals)))
+    (take (length (called c .before .loop .outweights) - called c .before .loop .term)
+    (drop (called c .before .loop .term) (called c .before .loop .outweights)))
+    (take (length (called c .before .loop .outliterals) - called c .before .loop .term)
+    (drop (called c .before .loop .term) (called c .before .loop .outliterals)))
     (c .fill-row .result) (c .fill-row .last .1 .1 .1 .1 .1 .1 .1 .0) (c .fill-row .last .1 .1 .1 .1 .1 .1 .1 .1 .0)
 wrote c =
     let d = called c in
@@ -153,7 +165,9 @@ slice-set-from-bound : tie.Need-slice-set-from-bound Inv-loop μ-loop
 slice-set-from-bound c = let d = turn c in omega (arith, fit d .rows, lengths (d .before) .bounds)
 
 add-term : tie.Need-add-term Inv-loop μ-loop
-add-term c = let d = turn (c .before) in omega (arith, wrote (c .before .before .before .before .before) .terms, fit d .terms, start (d .before) .good)
+add-term c =
+    let d = turn (c .before) in
+    omega (arith, wrote (c .before .before .before .before .before) .terms, fit d .terms, start (d .before) .good)
 
 add-i : tie.Need-add-i Inv-loop μ-loop
 add-i c = let d = turn (c .before) in omega (arith, below d, start (d .before) .good)
@@ -165,10 +179,13 @@ loop-again : tie.Need-loop-again Inv-loop μ-loop
 loop-again c =
     let d = turn (c .before) in
     let l = d .before in
-    let g : SFits w64 (c .before .before .before .before .before .fill-row .result .bound) = record { sfits = c .before .struct-told .given .1 .0 .1 } in (
+    let g : SFits w64 (c .before .before .before .before .before .fill-row .result .bound) = record {
+      sfits = c .before .struct-told .given .1 .0 .1;
+    } in (
       omega (arith, d .loop-test .taken),
       rw (toZ-ofZ g)
-          (filling-more (lent l) (given l) (start l .pre) (l .loop .i) (l .loop .term) (held l) (l .loop .inv .1) (below d) _ _ _ (wrote (c .before .before .before .before .before))),
+          (filling-more (lent l) (given l) (start l .pre) (l .loop .i) (l .loop .term) (held l) (l .loop .inv .1) (below d) _ _ _
+          (wrote (c .before .before .before .before .before))),
     )
 
 same-length : tie.Need-same-length Inv-loop μ-loop
@@ -192,7 +209,8 @@ same-length-6 c = lengths (c .before) .literals
 returns : tie.Need-returns Inv-loop μ-loop
 returns c =
     let l = c .before in
-    filling-all (lent l) (given l) (start l .pre) (l .loop .i) (l .loop .term) (held l) (l .loop .inv .1) (omega (arith, c .loop-test .left, l .before .row-room .ensures))
+    filling-all (lent l) (given l) (start l .pre) (l .loop .i) (l .loop .term) (held l) (l .loop .inv .1)
+    (omega (arith, c .loop-test .left, l .before .row-room .ensures))
 
 pub fill-rows-spec : {M : Type 1} → statement M
 fill-rows-spec =

@@ -1,5 +1,5 @@
--- `normaliser::fill::fill_terms` meets its contract. The loop's invariant: the first i terms, normal, stand in both columns (`Written`, proofs/NormalTerms.antt).
--- The measure is what is left of the length. Assumes nothing.
+-- `normaliser::fill::fill_terms` meets its contract. The loop's invariant: the first i terms, normal, stand in both columns
+-- (`Written`, proofs/NormalTerms.antt). The measure is what is left of the length. Assumes nothing.
 use mathlib.Core.Path.{_≡_, sym, ap, _∙_}
 use mathlib.Core.List.{List, map-map}
 use Prim.Native.Nat.{ℕ, _-_, _≤_}
@@ -28,7 +28,8 @@ literalTo t = literalOf (normalTerm t)
 
 abbrev Inv-loop : tie.InvT-loop
 Inv-loop weights literals outweights₀ outliterals₀ i₀ outweights outliterals i =
-    (i ≤ length weights) × Written weightTo weights literals outweights₀ outweights i × Written literalTo weights literals outliterals₀ outliterals i
+    (i ≤ length weights) × Written weightTo weights literals outweights₀ outweights i
+    × Written literalTo weights literals outliterals₀ outliterals i
 
 abbrev μ-loop : tie.MeasureT-loop
 μ-loop weights literals outweights₀ outliterals₀ i₀ outweights outliterals i = length weights - i
@@ -46,17 +47,21 @@ turn c = c .before .before .before .before .before
 weights-long : (l : tie.At-loop Inv-loop μ-loop) → length (l .loop .outweights) ≡ length (now (start l .args .outweights))
 weights-long l =
     let s = start l in
-    written-length weightTo (now (s .args .weights)) (now (s .args .literals)) (now (s .args .outweights)) (s .pre .even) (s .pre .weights) (l .loop .outweights) (l .loop .i) (l .loop .inv .0) (l .loop .inv .1)
+    written-length weightTo (now (s .args .weights)) (now (s .args .literals)) (now (s .args .outweights)) (s .pre .even)
+    (s .pre .weights) (l .loop .outweights) (l .loop .i) (l .loop .inv .0) (l .loop .inv .1)
 
 literals-long : (l : tie.At-loop Inv-loop μ-loop) → length (l .loop .outliterals) ≡ length (now (start l .args .outliterals))
 literals-long l =
     let s = start l in
-    written-length literalTo (now (s .args .weights)) (now (s .args .literals)) (now (s .args .outliterals)) (s .pre .even) (s .pre .literals) (l .loop .outliterals) (l .loop .i) (l .loop .inv .0) (l .loop .inv .2)
+    written-length literalTo (now (s .args .weights)) (now (s .args .literals)) (now (s .args .outliterals)) (s .pre .even)
+    (s .pre .literals) (l .loop .outliterals) (l .loop .i) (l .loop .inv .0) (l .loop .inv .2)
 
 -- ---- the term that was made normal
 
 abbrev read : tie.In-loop Inv-loop μ-loop → Term
-read c = let a = start (c .before) .args in term (getD (now (a .weights)) (c .before .loop .i) (pos 0)) (getD (now (a .literals)) (c .before .loop .i) 0)
+read c =
+    let a = start (c .before) .args in
+    term (getD (now (a .weights)) (c .before .loop .i) (pos 0)) (getD (now (a .literals)) (c .before .loop .i) 0)
 
 made : (c : tie.After-struct-told Inv-loop μ-loop) → saidTerm (c .before .normal-term .result) ≡ normalTerm (read (turn c))
 unfolding normalTerm
@@ -66,8 +71,11 @@ made c =
 
 loop-holds : tie.Need-loop-holds Inv-loop μ-loop
 loop-holds c =
-    let a = c .before .before .args in
-    (omega arith, written-none weightTo (now (a .weights)) (now (a .literals)) _, written-none literalTo (now (a .weights)) (now (a .literals)) _)
+    let a = c .before .before .args in (
+      omega arith,
+      written-none weightTo (now (a .weights)) (now (a .literals)) _,
+      written-none literalTo (now (a .weights)) (now (a .literals)) _,
+    )
 
 mul-normal-term : tie.Need-mul-normal-term Inv-loop μ-loop
 mul-normal-term c = omega (arith, c .loop-test .taken, start (c .before) .good)
@@ -88,7 +96,11 @@ normal-term-requires : tie.Need-normal-term-requires Inv-loop μ-loop
 normal-term-requires c κs =
     let d = c .before .before .before in
     let f : SFits w64 (read d .weight) = record { sfits = c .before .before .normal-term-arg .given } in
-    rw (toZ-ofZ f) (omega (arith, size-of-one (now (start (d .before) .args .weights)) (d .before .loop .i) (d .loop-test .taken), start (d .before) .pre .small))
+    rw (toZ-ofZ f) (omega (
+      arith,
+      size-of-one (now (start (d .before) .args .weights)) (d .before .loop .i) (d .loop-test .taken),
+      start (d .before) .pre .small,
+    ))
 
 mul-weight : tie.Need-mul-weight Inv-loop μ-loop
 mul-weight c = let l = turn c .before in omega (arith, turn c .loop-test .taken, start l .pre .weights, start l .good)
@@ -100,10 +112,12 @@ code-requires : tie.Need-code-requires Inv-loop μ-loop
 code-requires c κs = search needs
 
 mul-outliterals : tie.Need-mul-outliterals Inv-loop μ-loop
-mul-outliterals c = let l = turn (c .before) .before in omega (arith, turn (c .before) .loop-test .taken, start l .pre .literals, start l .good)
+mul-outliterals c =
+    let l = turn (c .before) .before in omega (arith, turn (c .before) .loop-test .taken, start l .pre .literals, start l .good)
 
 slice-write-outliterals : tie.Need-slice-write-outliterals Inv-loop μ-loop
-slice-write-outliterals c = let l = turn (c .before) .before in omega (arith, turn (c .before) .loop-test .taken, start l .pre .literals, literals-long l)
+slice-write-outliterals c =
+    let l = turn (c .before) .before in omega (arith, turn (c .before) .loop-test .taken, start l .pre .literals, literals-long l)
 
 add-i : tie.Need-add-i Inv-loop μ-loop
 add-i c = omega (arith, turn (c .before) .loop-test .taken, start (turn (c .before) .before) .good)
@@ -119,8 +133,11 @@ loop-again c =
     let h = turn k .loop-test .taken in
     let f : SFits w64 (k .before .normal-term .result .weight) = record { sfits = k .struct-told .given .0 .1 } in (
       omega (arith, h),
-      written-more weightTo (now (s .args .weights)) (now (s .args .literals)) (now (s .args .outweights)) (s .pre .even) (s .pre .weights) (l .loop .outweights) (l .loop .i) (l .loop .inv .0) (l .loop .inv .1) h _ (toZ-ofZ f ∙ ap weightOf (made k)),
-      written-more literalTo (now (s .args .weights)) (now (s .args .literals)) (now (s .args .outliterals)) (s .pre .even) (s .pre .literals) (l .loop .outliterals) (l .loop .i) (l .loop .inv .0) (l .loop .inv .2) h _ (c .code .ensures ∙ ap literalOf (made k)),
+      written-more weightTo (now (s .args .weights)) (now (s .args .literals)) (now (s .args .outweights)) (s .pre .even)
+          (s .pre .weights) (l .loop .outweights) (l .loop .i) (l .loop .inv .0) (l .loop .inv .1) h _ (toZ-ofZ f ∙ ap weightOf (made k)),
+      written-more literalTo (now (s .args .weights)) (now (s .args .literals)) (now (s .args .outliterals)) (s .pre .even)
+          (s .pre .literals) (l .loop .outliterals) (l .loop .i) (l .loop .inv .0) (l .loop .inv .2) h _
+          (c .code .ensures ∙ ap literalOf (made k)),
     )
 
 same-length : tie.Need-same-length Inv-loop μ-loop
@@ -138,10 +155,12 @@ returns c =
     let cs = now (s .args .literals) in
     record {
       weights =
-          written-all weightTo ws cs (now (s .args .outweights)) (s .pre .even) (s .pre .weights) (l .loop .outweights) (l .loop .i) (l .loop .inv .0) (l .loop .inv .1) h
+          written-all weightTo ws cs (now (s .args .outweights)) (s .pre .even) (s .pre .weights) (l .loop .outweights) (l .loop .i)
+          (l .loop .inv .0) (l .loop .inv .1) h
           ∙ ap (λ (xs : List ℤ). over xs (now (s .args .outweights))) (sym (map-map weightOf normalTerm (termsOn ws cs)));
       literals =
-          written-all literalTo ws cs (now (s .args .outliterals)) (s .pre .even) (s .pre .literals) (l .loop .outliterals) (l .loop .i) (l .loop .inv .0) (l .loop .inv .2) h
+          written-all literalTo ws cs (now (s .args .outliterals)) (s .pre .even) (s .pre .literals) (l .loop .outliterals) (l .loop .i)
+          (l .loop .inv .0) (l .loop .inv .2) h
           ∙ ap (λ (xs : List ℕ). over xs (now (s .args .outliterals))) (sym (map-map literalOf normalTerm (termsOn ws cs)));
     }
 

@@ -1,11 +1,12 @@
--- `read_digits` meets its contract: no digits are refusal 4, and the file number, the index and the code are those of the definition (proofs/Literals.antt).
+-- `read_digits` meets its contract: no digits are refusal 4, and the file number, the index and the code are those of
+-- the definition (proofs/Literals.antt).
 use borrow.Author.Needs.{needs}
 use mathlib.Core.Path.{_≡_, sym, ap, _∙_}
 use Prim.Native.Nat.{ℕ}
 use Rattle.definitions.specs.Refusal.{Checked, refuse, accept}
 use Rattle.definitions.specs.Literal.{index}
-use Rattle.symbols.specs.Said.{saidFileNumber, saidVar, saidLit}
-use Rattle.symbols.proofs.Conversions.{index-of-digits, index-of-digits-refused}
+use Rattle.literals.specs.Said.{saidFileNumber, saidVar, saidLit}
+use Rattle.literals.proofs.Conversions.{index-of-digits, index-of-digits-refused}
 use Rattle.pieces.proofs.Literals.{digits-missing, digits-indexed, digits-coded}
 use Rattle.pieces.proofs.literal.read_digits.Statement.{statement}
 use Rattle.pieces.proofs.literal.read_digits.Tie as tie
@@ -22,7 +23,8 @@ module _ (c : tie.After-of-file) where
   var-read : saidVar (c .of-file .result) ≡ indexed found
   var-read =
       c .of-file .ensures
-      ∙ index-of-digits _ _ _ (sym (ap saidFileNumber (c .before .before .n .given .1)) ∙ c .before .before .before .before .of-digits .ensures)
+      ∙ index-of-digits _ _ _ (sym (ap saidFileNumber (c .before .before .n .given .1))
+      ∙ c .before .before .before .before .of-digits .ensures)
 
 read-run-requires : tie.Need-read-run-requires
 read-run-requires c κs = search needs

@@ -1,4 +1,5 @@
--- `read_literal` meets its contract: a `~` or `-` is one byte and negates the variable behind it, else the variable stands at the front (proofs/Literals.antt).
+-- `read_literal` meets its contract: a `~` or `-` is one byte and negates the variable behind it, else the variable
+-- stands at the front (proofs/Literals.antt).
 use borrow.Author.Needs.{needs}
 use native.Mathlib.Omega.{arith}
 use mathlib.Core.Path.{_≡_, sym, ap, _∙_}
@@ -40,7 +41,8 @@ read-variable-requires c κs = search needs
 
 returns-2 : tie.Need-returns-2
 returns-2 c =
-    c .read-variable .ensures ∙ literal-plain _ _ (c .before .before .before .before .if1 .left) (c .before .before .if2 .taken) (c .before .if3 .taken)
+    c .read-variable .ensures ∙ literal-plain _ _ (c .before .before .before .before .if1 .left) (c .before .before .if2 .taken)
+    (c .before .if3 .taken)
 
 sub-read-variable : tie.Need-sub-read-variable
 sub-read-variable c = search needs
@@ -61,7 +63,12 @@ add-t17 : tie.Need-add-t17
 add-t17 c =
     let d = c .before .before .before in
     let s = now (start d .args .s) in
-    omega (arith, negated-within _ (drop 1 s) _ _ (sym (behind d) ∙ ap saidLiteral (c .before .l .given .1)), length-drop 1 s, start d .good .0 .0)
+    omega (
+      arith,
+      negated-within _ (drop 1 s) _ _ (sym (behind d) ∙ ap saidLiteral (c .before .l .given .1)),
+      length-drop 1 s,
+      start d .good .0 .0,
+    )
 
 enum-known-e : tie.Need-enum-known-e
 enum-known-e c = search needs

@@ -21,7 +21,10 @@ module _ (c : tie.After-read-digits) where
   behind = c .read-digits .ensures ∙ ap (digits (start .args .options) (start .args .negated)) (part-is (now (start .args .s)) 1)
 
   answer : more 1 (saidLiteral (c .read-digits .result)) ≡ variable (start .args .options) (start .args .negated) (now (start .args .s))
-  answer = ap (more 1) behind ∙ variable-x (start .args .options) (start .args .negated) (now (start .args .s)) (c .before .before .before .before .if1 .left) (c .before .before .if2 .left)
+  answer =
+      ap (more 1) behind
+      ∙ variable-x (start .args .options) (start .args .negated) (now (start .args .s))
+      (c .before .before .before .before .if1 .left) (c .before .before .if2 .left)
 
 returns : tie.Need-returns
 returns c = variable-empty _ _ _ (c .if1 .taken)
@@ -51,7 +54,12 @@ add-t16 : tie.Need-add-t16
 add-t16 c =
     let d = c .before .before .before in
     let s = now (start d .args .s) in
-    omega (arith, digits-within _ _ (drop 1 s) _ _ (sym (behind d) ∙ ap saidLiteral (c .before .l .given .1)), length-drop 1 s, start d .good .0 .0)
+    omega (
+      arith,
+      digits-within _ _ (drop 1 s) _ _ (sym (behind d) ∙ ap saidLiteral (c .before .l .given .1)),
+      length-drop 1 s,
+      start d .good .0 .0,
+    )
 
 enum-known-e : tie.Need-enum-known-e
 enum-known-e c = search needs

@@ -19,7 +19,8 @@ module _ (c : tie.After-read-term) where
   answer : asStep (saidTerm (c .read-term .result)) ≡ termStep (start .args .options) (now (start .args .s))
   answer =
       ap asStep (c .read-term .ensures)
-      ∙ step-term _ _ (c .before .before .before .before .before .if1 .left) _ (c .before .before .before .beginning-of .ensures) (c .before .enum-told .given .1)
+      ∙ step-term _ _ (c .before .before .before .before .before .if1 .left) _
+      (c .before .before .before .beginning-of .ensures) (c .before .enum-told .given .1)
 
 returns : tie.Need-returns
 returns c = step-empty _ _ (c .if1 .taken)

@@ -90,10 +90,18 @@ add-t16 : tie.Need-add-t16
 add-t16 c =
     let d = c .before .before .before in
     let p = place d in
-    omega (arith, within-after-weight (start p .args .options) (weight p) .most (drop (count p) (text p)) _ _ (sym (behind d) ∙ ap saidTerm (c .before .weight .given .1)), length-drop (count p) (text p), taken p, start p .good .0 .0)
+    omega (
+      arith,
+      within-after-weight (start p .args .options) (weight p) .most (drop (count p) (text p)) _ _
+          (sym (behind d) ∙ ap saidTerm (c .before .weight .given .1)),
+      length-drop (count p) (text p),
+      taken p,
+      start p .good .0 .0,
+    )
 
 returns-2 : tie.Need-returns-2
-returns-2 c = sym (ap (λ r. more (count (place (c .before .before .before))) (saidTerm r)) (c .before .e .given .1)) ∙ answer (c .before .before .before)
+returns-2 c = sym (ap (λ r. more (count (place (c .before .before .before))) (saidTerm r)) (c .before .e .given .1))
+    ∙ answer (c .before .before .before)
 
 returns-3 : tie.Need-returns-3
 returns-3 c =

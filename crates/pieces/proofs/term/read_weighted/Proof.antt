@@ -13,7 +13,8 @@ use Rattle.definitions.specs.Text.{literal}
 use Rattle.definitions.proofs.Parts.{part-is}
 use Rattle.definitions.proofs.Texts.{blanks-within}
 use Rattle.pieces.specs.Said.{saidLiteral}
-use Rattle.pieces.proofs.Terms.{literal-ends-within, blanks-end-within, after-weight-no-blank, after-weight-no-literal, after-weight-literal}
+use Rattle.pieces.proofs.Terms.{literal-ends-within, blanks-end-within, after-weight-no-blank}
+use Rattle.pieces.proofs.Terms.{after-weight-no-literal, after-weight-literal}
 use Rattle.pieces.proofs.term.read_weighted.Statement.{statement}
 use Rattle.pieces.proofs.term.read_weighted.Tie as tie
 

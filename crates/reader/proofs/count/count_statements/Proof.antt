@@ -1,4 +1,5 @@
--- `count_statements` meets its contract: the loop stands at an offset with the rows and terms before it counted (`Counting`, proofs/Counts.antt). The measure is what is left of the file.
+-- `count_statements` meets its contract: the loop stands at an offset with the rows and terms before it counted (`Counting`, of the
+-- crate statements). The measure is what is left of the file.
 use Prim.Native.Nat.{ℕ, _+_, _-_, _≤_}
 use mathlib.Core.List.{List}
 use mathlib.Core.Path.{_≡_, ap, sym, _∙_}
@@ -10,9 +11,12 @@ use Rattle.definitions.specs.Text.{statement}
 use Rattle.definitions.specs.declared.Options.{Options}
 use Rattle.definitions.specs.Walk.{bad}
 use Rattle.definitions.proofs.Parts.{part-is}
-use Rattle.reader.specs.Brief.{briefStep, termsOfKind}
-use Rattle.reader.specs.Said.{saidStatement}
-use Rattle.reader.proofs.Counts.{LineIs, brief-stop, brief-bad, brief-item, Counting, counting-start, counting-stop, counting-bad, counting-line, place-fits, line-has-byte, line-end-within, line-terms-fewer}
+use Rattle.columns.specs.Kinds.{termsOfKind}
+use Rattle.statements.specs.Brief.{briefStep}
+use Rattle.statements.specs.Said.{saidStatement}
+use Rattle.statements.proofs.Briefs.{LineIs, brief-stop, brief-bad, brief-item}
+use Rattle.statements.proofs.Counts.{Counting, counting-start, counting-stop, counting-bad, counting-line, place-fits}
+use Rattle.statements.proofs.Counts.{line-has-byte, line-end-within, line-terms-fewer}
 use Rattle.reader.proofs.count.count_statements.Statement as theorem
 use Rattle.reader.proofs.count.count_statements.Tie as tie
 
@@ -44,7 +48,8 @@ module _ (c : tie.After-known-told Inv-loop μ-loop) where
   abbrev at-bad : tie.After-opb-data Inv-loop μ-loop
   at-bad = c .before .before .before
 
-  refusal-is : statement (options at-bad) (drop (place at-bad) (text at-bad)) ≡ bad (c .before .number .given .0 .0) (c .before .number .given .0 .1 .0)
+  refusal-is : statement (options at-bad) (drop (place at-bad) (text at-bad))
+      ≡ bad (c .before .number .given .0 .0) (c .before .number .given .0 .1 .0)
   refusal-is = brief-bad _ _ _ (sym (ap saidStatement (c .before .number .given .1)) ∙ read at-bad)
 
 -- a row
@@ -53,13 +58,13 @@ module _ (c : tie.After-known-told2 Inv-loop μ-loop) where
   here = c .before .before .before
 
   abbrev terms : ℕ
-  terms = termsOfKind (c .before .kind .given .0 .0) (c .before .kind .given .0 .1 .1 .0)
+  terms = termsOfKind (c .before .entry .given .0 .0 .kind) (c .before .entry .given .0 .0 .count)
 
   abbrev count : ℕ
-  count = c .before .kind .given .0 .1 .1 .1 .1 .0
+  count = c .before .entry .given .0 .1 .0
 
   line-is : LineIs (statement (options here) (drop (place here) (text here))) terms count
-  line-is = brief-item _ _ _ _ _ _ (sym (ap saidStatement (c .before .kind .given .1)) ∙ read here)
+  line-is = brief-item _ _ _ (sym (ap saidStatement (c .before .entry .given .1)) ∙ read here)
 
   within : place here + count ≤ length (text here)
   within = line-end-within _ _ _ _ _ (stand here) terms count line-is
@@ -96,8 +101,8 @@ add-t16 c = omega (arith, place-fits _ _ _ _ _ (stand (at-bad c)) _ _ (refusal-i
 returns-2 : tie.Need-returns-2 Inv-loop μ-loop
 returns-2 c = counting-bad _ _ _ _ _ (stand (at-bad c)) _ _ (refusal-is c)
 
-enum-known-kind : tie.Need-enum-known-kind Inv-loop μ-loop
-enum-known-kind c = search needs
+enum-known-entry : tie.Need-enum-known-entry Inv-loop μ-loop
+enum-known-entry c = search needs
 
 add-rows : tie.Need-add-rows Inv-loop μ-loop
 add-rows c = omega (arith, within c, line-has-byte _ _ _ _ _ (stand (here c)) (terms c) (count c) (line-is c), stand (here c) .fewer-rows)
@@ -108,7 +113,13 @@ terms-of-requires c κs = search needs
 add-terms : tie.Need-add-terms Inv-loop μ-loop
 add-terms c =
     let d = c .before in
-    omega (arith, c .terms-of .ensures, within d, line-terms-fewer _ _ _ _ _ (stand (here d)) (terms d) (count d) (line-is d), stand (here d) .fewer-terms)
+    omega (
+      arith,
+      c .terms-of .ensures,
+      within d,
+      line-terms-fewer _ _ _ _ _ (stand (here d)) (terms d) (count d) (line-is d),
+      stand (here d) .fewer-terms,
+    )
 
 add-at : tie.Need-add-at Inv-loop μ-loop
 add-at c = omega (arith, within (c .before))
@@ -139,7 +150,7 @@ count-statements-spec =
     enum-known-number
     add-t16
     returns-2
-    enum-known-kind
+    enum-known-entry
     add-rows
     terms-of-requires
     add-terms

@@ -1,4 +1,5 @@
--- `string::append` meets its contract. The loop's invariant: what the first i digits leave in both rows (proofs/Strings.antt); the measure is what is left of the length. Assumes nothing.
+-- `string::append` meets its contract. The loop's invariant: what the first i digits leave in both rows (proofs/Strings.antt); the
+-- measure is what is left of the length. Assumes nothing.
 use Prim.Native.Nat.{_-_}
 use native.Mathlib.Omega.{arith}
 use lib.ListN.{length}
@@ -38,7 +39,8 @@ loop-again c =
     let m = c .before .before .before .before in
     let k = m .before .before .before in
     let l = k .before .before .before .loop in
-    appended-more _ _ _ _ _ _ _ (l .inv) (k .before .before .loop-test .taken) _ (k .literal-at .ensures) _ _ (m .make-true .ensures .0) (m .make-true .ensures .1)
+    appended-more _ _ _ _ _ _ _ (l .inv) (k .before .before .loop-test .taken) _ (k .literal-at .ensures) _ _ (m .make-true .ensures .0)
+    (m .make-true .ensures .1)
 
 same-length : tie.Need-same-length Inv-loop μ-loop
 same-length c = appended-lengths _ _ _ _ _ _ _ (c .before .loop .inv) .0

@@ -1,21 +1,33 @@
 -- `string::check` meets its contract: nothing, a line without `v`, or the one string of the block (proofs/Checks.antt). Assumes nothing.
-use mathlib.Core.Path.{_≡_, sym, ap, _∙_}
-use mathlib.Core.List.{[]}
+use mathlib.Core.Path.{_≡_, sym, _∙_}
+use mathlib.Core.List.{List, []}
+use Prim.Native.Nat.{ℕ}
 use borrow.Author.Needs.{needs}
 use denote.Ref.{now}
 use Rattle.definitions.specs.Values.{front, itemsFrom}
-use Rattle.values.specs.Steps.{saidSought, soughtOf}
-use Rattle.values.specs.declared.items.Sought.{Sought}
+use Rattle.tokens.specs.Steps.{Found, soughtOf, itemBy}
+use Rattle.tokens.specs.declared.items.NextItem.{NextItem}
+use Rattle.tokens.proofs.Found.{found-end, found-line, found-token}
 use Rattle.values.proofs.Checks.{hear-nothing, hear-line, met-within, met-answer}
 use Rattle.values.proofs.string.check.Statement.{statement}
 use Rattle.values.proofs.string.check.Tie as tie
 
--- what is found first
-found : (c : tie.After-seek) (r : Sought) → c .seek .result ≡ r → saidSought r ≡ soughtOf (itemsFrom front 0 (now (c .before .before .before .before .args .block)))
-found c r e = sym (ap saidSought e) ∙ c .seek .ensures
+module _ (c : tie.After-next-item) where
+  abbrev start : tie.Start
+  start = c .before .before .before .before
 
-seek-requires : tie.Need-seek-requires
-seek-requires c κs = search needs
+  abbrev text : List ℕ
+  text = now (start .args .block)
+
+  abbrev first : Found
+  first = soughtOf (itemsFrom front 0 text)
+
+  -- what is met first
+  met : (r : NextItem) → c .next-item .result ≡ r → r ≡ itemBy text first
+  met r e = sym e ∙ c .next-item .ensures
+
+next-item-requires : tie.Need-next-item-requires
+next-item-requires c κs = search needs
 
 enum-told : tie.Need-enum-told
 enum-told c = search needs
@@ -29,24 +41,27 @@ enum-known-place c = search needs
 check-at-requires : tie.Need-check-at-requires
 check-at-requires c κs =
     let k = c .before .before .before in
-    met-within 0 [] [] _ (k .before .before .before .before .pre .1) _ (found k _ (c .before .place .given .1))
+    let m = found-token (text k) (first k) _ _ (met k _ (c .before .place .given .1)) in
+    (met-within 0 [] [] _ (start k .pre .1) _ (m .0), m .1)
 
 returns : tie.Need-returns
-returns c = (hear-nothing _ _ _ _ _ (found (c .before .before) _ (c .enum-told .given .1)), tt)
+returns c = let k = c .before .before in (hear-nothing _ _ _ _ _ (found-end (text k) (first k) (met k _ (c .enum-told .given .1))), tt)
 
 returns-2 : tie.Need-returns-2
-returns-2 c = (hear-line _ _ _ _ _ _ (found (c .before .before .before) _ (c .before .line .given .1)), tt)
+returns-2 c =
+    let k = c .before .before .before in (hear-line _ _ _ _ _ _ (found-line (text k) (first k) _ (met k _ (c .before .line .given .1))), tt)
 
 returns-3 : tie.Need-returns-3
 returns-3 c =
     let k = c .before .before .before .before in
-    met-answer _ _ _ _ (k .before .before .before .before .pre .1) _ (found k _ (c .before .before .place .given .1)) _ (c .check-at .ensures)
+    met-answer _ _ _ _ (start k .pre .1) _ (found-token (text k) (first k) _ _ (met k _ (c .before .before .place .given .1)) .0) _
+    (c .check-at .ensures)
 
 pub check-spec : {M : Type 1} → statement M
 check-spec =
     tie.close
     (tie.spec
-    seek-requires
+    next-item-requires
     enum-told
     enum-known-line
     enum-known-place

@@ -4,8 +4,8 @@ use borrow.Author.Needs.{needs}
 use lib.Dec.{eqb}
 use Rattle.definitions.specs.Literal.{codeOf, codeFor}
 use Rattle.definitions.specs.Refusal.{accept}
-use Rattle.symbols.proofs.Conversions.{accepted, no-refusal, literal-within}
-use Rattle.symbols.specs.Said.{saidLit}
+use Rattle.literals.proofs.Conversions.{accepted, no-refusal, literal-within}
+use Rattle.literals.specs.Said.{saidLit}
 use Rattle.values.proofs.string.literal_at.Statement.{statement}
 use Rattle.values.proofs.string.literal_at.Tie as tie
 
@@ -31,7 +31,8 @@ of-code-requires c κs = search needs
 said : (c : tie.After-lit) → let a = c .before .before .args in saidLit (c .lit .result) ≡ accept (codeOf (eqb (a .digit) 48) (a .variable))
 said c =
     let a = c .before .before .args in
-    c .lit .ensures ∙ ap (codeFor (eqb (a .digit) 48)) (c .before .of-index .ensures) ∙ sym (literal-within (eqb (a .digit) 48) (a .variable) (c .before .before .pre))
+    c .lit .ensures ∙ ap (codeFor (eqb (a .digit) 48)) (c .before .of-index .ensures)
+    ∙ sym (literal-within (eqb (a .digit) 48) (a .variable) (c .before .before .pre))
 
 returns : tie.Need-returns
 returns c = accepted _ _ (sym (ap saidLit (c .before .literal .given .1)) ∙ said (c .before .before .before))

@@ -1,4 +1,5 @@
--- `string::string_conflicts` meets its contract. The loop's invariant: the first i digits conflict with nothing (proofs/Strings.antt); the measure is what is left of the length. Assumes nothing.
+-- `string::string_conflicts` meets its contract. The loop's invariant: the first i digits conflict with nothing
+-- (proofs/Strings.antt); the measure is what is left of the length. Assumes nothing.
 use Prim.Native.Nat.{_-_}
 use native.Mathlib.Omega.{arith}
 use lib.ListN.{length}

@@ -9,10 +9,10 @@ use lib.ListN.{length, drop}
 use lib.IntN.{ℤ}
 use Rattle.definitions.specs.Text.{statement}
 use Rattle.definitions.specs.Stepping.{stepped, stepAt, steppedBy, termsBy, columnsRoom}
+use Rattle.definitions.specs.declared.Entry.{Entry}
 use Rattle.definitions.specs.declared.Options.{Options}
 use Rattle.definitions.proofs.Parts.{part-is}
-use Rattle.reader.specs.Brief.{LineBrief, lineBrief}
-use Rattle.reader.specs.FillsTerms.{FillsTerms}
+use Rattle.statements.specs.FillsTerms.{FillsTerms}
 use Rattle.walker.specs.Said.{saidStepped, briefStepped}
 use Rattle.walker.proofs.Stepping.{fill-ended, fill-stopped, fill-within, fill-line}
 use Rattle.walker.proofs.steps.fill_at.Statement as theorem
@@ -43,11 +43,11 @@ module _ (c : tie.After-enum-told2) where
   abbrev here : tie.After-step-at
   here = c .before .before
 
-  abbrev line : LineBrief
-  line = lineBrief (c .enum-told2 .given .0 .0) (c .enum-told2 .given .0 .1 .0) (c .enum-told2 .given .0 .1 .1 .0) (c .enum-told2 .given .0 .1 .1 .1 .0)
+  abbrev line : Entry
+  line = c .enum-told2 .given .0 .0
 
   abbrev behind : ℕ
-  behind = c .enum-told2 .given .0 .1 .1 .1 .1 .0
+  behind = c .enum-told2 .given .0 .1 .0
 
   line-is : stepped line behind ≡ briefStepped (stepAt (options here) (text here) (place here))
   line-is = sym (ap saidStepped (c .enum-told2 .given .1)) ∙ here .step-at .ensures
@@ -61,8 +61,8 @@ step-at-requires c κs = search needs
 enum-told : tie.Need-enum-told
 enum-told c = search needs
 
-enum-known-number : tie.Need-enum-known-number
-enum-known-number c = search needs
+enum-known-refusal : tie.Need-enum-known-refusal
+enum-known-refusal c = search needs
 
 enum-told-2 : tie.Need-enum-told-2
 enum-told-2 c = search needs
@@ -87,7 +87,7 @@ returns c =
 returns-2 : tie.Need-returns-2
 returns-2 c =
     let d = c .before .before .before in
-    fill-stopped (options d) (text d) (place d) _ _ _ _ (sym (ap saidStepped (c .before .number .given .1)) ∙ d .step-at .ensures)
+    fill-stopped (options d) (text d) (place d) _ _ _ (sym (ap saidStepped (c .before .refusal .given .1)) ∙ d .step-at .ensures)
 
 same-length : tie.Need-same-length
 same-length c = search needs
@@ -102,8 +102,10 @@ returns-3 c =
     let d = here e in
     fill-line (options d) (text d) (place d) (weights d) (literals d) (line e) (behind e) (line-is e) _ _ _
     (subst
-    (λ (t : List ℕ). FillsTerms (termsBy (columnsRoom (weights d) (literals d)) (steppedBy 0 (statement (options d) t))) (weights d) (literals d) (f .fill-terms .result) (f .fill-terms .last .1 .1 .0)
-    (f .fill-terms .last .1 .1 .1 .0)) (part-is (text d) (place d)) (f .fill-terms .ensures))
+    (λ (t : List ℕ). FillsTerms (termsBy (columnsRoom (weights d) (literals d)) (steppedBy 0 (statement (options d) t))) (weights d)
+    (literals d)
+    (f .fill-terms .result) (f .fill-terms .last .1 .1 .0) (f .fill-terms .last .1 .1 .1 .0)) (part-is (text d) (place d))
+    (f .fill-terms .ensures))
 
 pub fill-at-spec : {M : Type 1} → theorem.statement M
 fill-at-spec =
@@ -111,7 +113,7 @@ fill-at-spec =
     (tie.spec
     step-at-requires
     enum-told
-    enum-known-number
+    enum-known-refusal
     enum-told-2
     sub-fill-terms
     part-fill-terms-start

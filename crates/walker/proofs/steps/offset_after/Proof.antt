@@ -1,7 +1,6 @@
 -- `offset_after` meets its contract, case by case.
 use mathlib.Core.Path.{sym, ap}
-use Rattle.definitions.specs.Stepping.{Stepped, offsetAfter}
-use Rattle.reader.specs.Brief.{LineBrief}
+use Rattle.definitions.specs.Stepping.{offsetAfter}
 use Rattle.walker.specs.Said.{saidStepped}
 use borrow.Author.Needs.{needs}
 use Rattle.walker.proofs.steps.offset_after.Statement.{statement}

@@ -1,21 +1,20 @@
--- `step_at` meets its contract: a file above the limit, an offset past the end, and what `opb_data` answers at the offset (proofs/Stepping.antt).
+-- `step_at` meets its contract: a file above the limit, an offset past the end, and what `opb_data` answers at the
+-- offset (proofs/Stepping.antt).
 use Prim.Native.Nat.{ℕ, _≤_}
 use mathlib.Core.List.{List}
 use mathlib.Core.Path.{_≡_, ap, sym, _∙_}
 use native.Mathlib.Omega.{arith}
 use borrow.Author.Needs.{needs}
 use denote.Ref.{now}
-use mir.Syntax.{w64}
-use mir.Val.{SFits}
-use mir.Facts.{toZ-ofZ}
 use lib.ListN.{length, drop}
 use Rattle.definitions.specs.Limits.{fileLimit}
 use Rattle.definitions.specs.Text.{statement}
 use Rattle.definitions.specs.Walk.{bad, item}
+use Rattle.definitions.specs.declared.Entry.{Entry}
 use Rattle.definitions.specs.declared.Options.{Options}
 use Rattle.definitions.proofs.Parts.{part-is}
-use Rattle.reader.specs.Brief.{lineBrief, briefStep}
-use Rattle.reader.specs.Said.{saidStatement}
+use Rattle.statements.specs.Brief.{briefStep}
+use Rattle.statements.specs.Said.{saidStatement}
 use Rattle.walker.proofs.Stepping.{step-long, step-past, step-end, refusal-fits, step-refused, first-fits, next-fits, step-line}
 use Rattle.walker.proofs.steps.step_at.Statement as theorem
 use Rattle.walker.proofs.steps.step_at.Tie as tie
@@ -62,12 +61,14 @@ module _ (c : tie.After-known-told2) where
   abbrev here : tie.After-opb-data
   here = c .before .before .before
 
-  abbrev line-told : tie.After-kind
-  line-told = c .before
+  abbrev found : Entry
+  found = c .before .entry .given .0 .0
 
-  line-is : item (lineBrief (line-told .kind .given .0 .0) (line-told .kind .given .0 .1 .0) (line-told .kind .given .0 .1 .1 .0) (line-told .kind .given .0 .1 .1 .1 .0)) (line-told .kind .given .0 .1 .1 .1 .1 .0)
-      ≡ briefStep (statement (options here) (drop (place here) (text here)))
-  line-is = sym (ap saidStatement (line-told .kind .given .1)) ∙ read here
+  abbrev bytes : ℕ
+  bytes = c .before .entry .given .0 .1 .0
+
+  line-is : item found bytes ≡ briefStep (statement (options here) (drop (place here) (text here)))
+  line-is = sym (ap saidStatement (c .before .entry .given .1)) ∙ read here
 
 returns : tie.Need-returns
 returns c = step-long _ _ _ (c .if1 .taken)
@@ -93,26 +94,27 @@ enum-told c = search needs
 enum-known-number : tie.Need-enum-known-number
 enum-known-number c = search needs
 
-add-t18 : tie.Need-add-t18
-add-t18 c =
+add-t17 : tie.Need-add-t17
+add-t17 c =
     let d = at-bad c in
     omega (arith, refusal-fits (options d) (text d) (place d) (short d) (within d) (number c) (blanks c) (refusal-is c))
 
-enum-known-kind : tie.Need-enum-known-kind
-enum-known-kind c = search needs
+enum-known-entry : tie.Need-enum-known-entry
+enum-known-entry c = search needs
 
 add-first-of : tie.Need-add-first-of
 add-first-of c =
-    let d = here c in
-    omega (arith, first-fits (options d) (text d) (place d) (short d) (within d) _ _ _ _ _ (line-is c))
+    let d = here (c .before) in
+    omega (arith, first-fits (options d) (text d) (place d) (short d) (within d) _ _ (line-is (c .before)))
 
 first-of-requires : tie.Need-first-of-requires
 first-of-requires c κs = search needs
 
-add-t21 : tie.Need-add-t21
-add-t21 c =
-    let d = here (c .before) in
-    omega (arith, next-fits (options d) (text d) (place d) (short d) (within d) _ _ _ _ _ (line-is (c .before)))
+add-t20 : tie.Need-add-t20
+add-t20 c =
+    let e = c .before .before in
+    let d = here e in
+    omega (arith, next-fits (options d) (text d) (place d) (short d) (within d) _ _ (line-is e))
 
 returns-3 : tie.Need-returns-3
 returns-3 c =
@@ -126,10 +128,9 @@ returns-4 c =
 
 returns-5 : tie.Need-returns-5
 returns-5 c =
-    let d = here (c .before) in
-    let f : SFits w64 (c .before .before .kind .given .0 .1 .1 .1 .0) = record { sfits = c .before .known-told2 .given .1 .1 .1 .0 .1 } in
-    rw (toZ-ofZ f)
-    (step-line (options d) (text d) (place d) (short d) (within d) _ _ _ _ _ (line-is (c .before)) _ (c .first-of .ensures))
+    let e = c .before .before in
+    let d = here e in
+    rw (c .first-of .ensures) (step-line (options d) (text d) (place d) (short d) (within d) (found e) (bytes e) (line-is e))
 
 pub step-at-spec : {M : Type 1} → theorem.statement M
 step-at-spec =
@@ -143,11 +144,11 @@ step-at-spec =
     opb-data-requires
     enum-told
     enum-known-number
-    add-t18
-    enum-known-kind
+    add-t17
+    enum-known-entry
     add-first-of
     first-of-requires
-    add-t21
+    add-t20
     returns-3
     returns-4
     returns-5)

@@ -1,4 +1,5 @@
--- `count_steps` meets its contract: the loop stands at an offset with the rows and terms before it counted (`Counting`). Each line takes the offset forward (proofs/Tallies.antt), so that
+-- `count_steps` meets its contract: the loop stands at an offset with the rows and terms before it counted
+-- (`Counting`). Each line takes the offset forward (proofs/Tallies.antt), so that
 -- what is left of the file falls.
 use Prim.Native.Nat.{ℕ, _+_, _-_}
 use mathlib.Core.List.{List}
@@ -8,9 +9,10 @@ use borrow.Author.Needs.{needs}
 use denote.Ref.{now}
 use lib.ListN.{length}
 use Rattle.definitions.specs.Stepping.{stepped, stepAt}
+use Rattle.definitions.specs.declared.Entry.{Entry}
 use Rattle.definitions.specs.declared.Options.{Options}
-use Rattle.reader.specs.Brief.{lineBrief, termsOfKind}
-use Rattle.reader.proofs.Counts.{Counting, counting-start}
+use Rattle.columns.specs.Kinds.{termsOfKind}
+use Rattle.statements.proofs.Counts.{Counting, counting-start}
 use Rattle.walker.specs.Said.{saidStepped, briefStepped}
 use Rattle.walker.proofs.Tallies.{tally-end, tally-refused, Onward, tally-onward, tally-line}
 use Rattle.walker.proofs.tally.count_steps.Statement.{statement}
@@ -23,7 +25,7 @@ abbrev μ-loop : tie.MeasureT-loop
 μ-loop s options rows₀ terms₀ at₀ rows terms at = length s - at
 
 -- the step was taken
-module _ (c : tie.After-statement-at Inv-loop μ-loop) where
+module _ (c : tie.After-step-at Inv-loop μ-loop) where
   abbrev turn : tie.At-loop Inv-loop μ-loop
   turn = c .before
 
@@ -35,33 +37,31 @@ module _ (c : tie.After-statement-at Inv-loop μ-loop) where
 
 -- a line was found
 module _ (c : tie.After-known-told2 Inv-loop μ-loop) where
-  abbrev here : tie.After-statement-at Inv-loop μ-loop
+  abbrev here : tie.After-step-at Inv-loop μ-loop
   here = c .before .before .before
 
-  abbrev told : tie.After-kind Inv-loop μ-loop
-  told = c .before
-
-  abbrev terms : ℕ
-  terms = termsOfKind (told .kind .given .0 .0) (told .kind .given .0 .1 .1 .0)
+  abbrev found : Entry
+  found = c .before .entry .given .0 .0
 
   abbrev next : ℕ
-  next = told .kind .given .0 .1 .1 .1 .1 .0
+  next = c .before .entry .given .0 .1 .0
 
-  line-is : stepped (lineBrief (told .kind .given .0 .0) (told .kind .given .0 .1 .0) (told .kind .given .0 .1 .1 .0) (told .kind .given .0 .1 .1 .1 .0)) next
-      ≡ briefStepped (stepAt (options here) (text here) (turn here .loop .at))
-  line-is = sym (ap saidStepped (told .kind .given .1)) ∙ here .statement-at .ensures
+  line-is : stepped found next ≡ briefStepped (stepAt (options here) (text here) (turn here .loop .at))
+  line-is = sym (ap saidStepped (c .before .entry .given .1)) ∙ here .step-at .ensures
 
-  onward : Onward (options here) (text here) (turn here .loop .at) (turn here .loop .rows) (turn here .loop .terms) (turn here .loop .inv) _ _ _ _ next line-is
-  onward = tally-onward _ _ _ _ _ (turn here .loop .inv) _ _ _ _ next line-is
+  onward : Onward (options here) (text here) (turn here .loop .at) (turn here .loop .rows) (turn here .loop .terms)
+      (turn here .loop .inv) found next line-is
+  onward = tally-onward _ _ _ _ _ (turn here .loop .inv) found next line-is
 
-  moved : Counting (options here) (text here) next (turn here .loop .rows + 1) (turn here .loop .terms + terms)
-  moved = tally-line _ _ _ _ _ (turn here .loop .inv) _ _ _ _ next line-is
+  moved : Counting (options here) (text here) next (turn here .loop .rows + 1)
+      (turn here .loop .terms + termsOfKind (found .kind) (found .count))
+  moved = tally-line _ _ _ _ _ (turn here .loop .inv) found next line-is
 
 loop-holds : tie.Need-loop-holds Inv-loop μ-loop
 loop-holds c = counting-start _ _
 
-statement-at-requires : tie.Need-statement-at-requires Inv-loop μ-loop
-statement-at-requires c κs = search needs
+step-at-requires : tie.Need-step-at-requires Inv-loop μ-loop
+step-at-requires c κs = search needs
 
 enum-told : tie.Need-enum-told Inv-loop μ-loop
 enum-told c = search needs
@@ -69,18 +69,19 @@ enum-told c = search needs
 returns : tie.Need-returns Inv-loop μ-loop
 returns c =
     let d = c .before .before in
-    tally-end (options d) (text d) _ _ _ (turn d .loop .inv) (sym (ap saidStepped (c .enum-told .given .1)) ∙ d .statement-at .ensures)
+    tally-end (options d) (text d) _ _ _ (turn d .loop .inv) (sym (ap saidStepped (c .enum-told .given .1)) ∙ d .step-at .ensures)
 
-enum-known-number : tie.Need-enum-known-number Inv-loop μ-loop
-enum-known-number c = search needs
+enum-known-refusal : tie.Need-enum-known-refusal Inv-loop μ-loop
+enum-known-refusal c = search needs
 
 returns-2 : tie.Need-returns-2 Inv-loop μ-loop
 returns-2 c =
     let d = c .before .before .before in
-    tally-refused (options d) (text d) _ _ _ (turn d .loop .inv) _ _ (sym (ap saidStepped (c .before .number .given .1)) ∙ d .statement-at .ensures)
+    tally-refused (options d) (text d) _ _ _ (turn d .loop .inv) _
+    (sym (ap saidStepped (c .before .refusal .given .1)) ∙ d .step-at .ensures)
 
-enum-known-kind : tie.Need-enum-known-kind Inv-loop μ-loop
-enum-known-kind c = search needs
+enum-known-entry : tie.Need-enum-known-entry Inv-loop μ-loop
+enum-known-entry c = search needs
 
 add-rows : tie.Need-add-rows Inv-loop μ-loop
 add-rows c = omega (arith, onward c .few-rows, onward c .within)
@@ -104,12 +105,12 @@ count-steps-spec =
     Inv-loop
     μ-loop
     loop-holds
-    statement-at-requires
+    step-at-requires
     enum-told
     returns
-    enum-known-number
+    enum-known-refusal
     returns-2
-    enum-known-kind
+    enum-known-entry
     add-rows
     terms-of-requires
     add-terms

@@ -8,12 +8,13 @@ use mir.Facts.{toZ-ofZ}
 use denote.Ref.{now}
 use Rattle.definitions.specs.Table.{sortOf, andThen}
 use Rattle.definitions.specs.Write.{allowed, writtenIn}
-use Rattle.writer.specs.declared.kinds.Sort as said
-use Rattle.writer.specs.declared.kinds.Sort.the-variants.{Comment, Row, Refused}
-use Rattle.writer.specs.Kinds.{sortSaid}
-use Rattle.writer.specs.Entries.{entryOf, onColumns}
-use Rattle.writer.proofs.Outputs.{puts-as}
-use Rattle.writer.proofs.OneEntry.{itemFor, written-by, CommentReady, comment-ready, PartReady, part-ready, never-refused}
+use Rattle.printed.specs.declared.kinds.Sort as said
+use Rattle.printed.specs.declared.kinds.Sort.the-variants.{Comment, Row, Refused}
+use Rattle.printed.specs.Kinds.{sortSaid}
+use Rattle.printed.specs.Rows.{entryOf, onColumns}
+use Rattle.definitions.proofs.Puts.{puts-as}
+use Rattle.printed.proofs.OneEntry.{itemFor, written-by}
+use Rattle.writer.proofs.OneEntry.{CommentReady, comment-ready, PartReady, part-ready, never-refused}
 use Rattle.writer.proofs.entries.write_entry.Statement.{statement}
 use Rattle.writer.proofs.entries.write_entry.Tie as tie
 
@@ -25,21 +26,31 @@ module _ (c : tie.After-sort-of) where
   sorted = c .sort-of .ensures ∙ ap (sortSaid (sortOf (start .args .kind))) (toZ-ofZ (start .fits .bound))
 
   written : (s : said.Sort) → s ≡ sortSaid (sortOf (start .args .kind)) (start .args .bound)
-      → writtenIn (start .args .mode) (onColumns (now (start .args .weights)) (now (start .args .literals))) (now (start .args .text)) (entryOf (start .args .kind) (start .args .first) (start .args .count) (start .args .bound))
-      ≡ andThen (itemFor s (onColumns (now (start .args .weights)) (now (start .args .literals))) (now (start .args .text)) (entryOf (start .args .kind) (start .args .first) (start .args .count) (start .args .bound))) (allowed (start .args .mode))
-  written s e = written-by (onColumns (now (start .args .weights)) (now (start .args .literals))) (now (start .args .text)) (entryOf (start .args .kind) (start .args .first) (start .args .count) (start .args .bound)) (start .args .mode) s e
+      → writtenIn (start .args .mode) (onColumns (now (start .args .weights)) (now (start .args .literals))) (now (start .args .text))
+      (entryOf (start .args .kind) (start .args .first) (start .args .count) (start .args .bound))
+      ≡ andThen (itemFor s (onColumns (now (start .args .weights)) (now (start .args .literals))) (now (start .args .text))
+      (entryOf (start .args .kind) (start .args .first) (start .args .count) (start .args .bound))) (allowed (start .args .mode))
+  written s e = written-by (onColumns (now (start .args .weights)) (now (start .args .literals))) (now (start .args .text))
+      (entryOf (start .args .kind) (start .args .first) (start .args .count) (start .args .bound)) (start .args .mode) s e
 
-commented : (c : tie.After-enum-told) → let s = start (c .before .before) in CommentReady (s .args .mode) (now (s .args .weights)) (now (s .args .literals)) (now (s .args .text)) (s .args .kind) (s .args .first) (s .args .count) (s .args .bound) (s .pre)
+commented : (c : tie.After-enum-told) → let s = start (c .before .before) in
+    CommentReady (s .args .mode) (now (s .args .weights)) (now (s .args .literals)) (now (s .args .text)) (s .args .kind) (s .args .first)
+    (s .args .count) (s .args .bound) (s .pre)
 commented c =
     let d = c .before .before in
     let s = start d in
-    comment-ready (s .args .mode) (now (s .args .weights)) (now (s .args .literals)) (now (s .args .text)) (s .args .kind) (s .args .first) (s .args .count) (s .args .bound) (s .pre) (written d Comment (sym (c .enum-told .given .1) ∙ sorted d))
+    comment-ready (s .args .mode) (now (s .args .weights)) (now (s .args .literals)) (now (s .args .text)) (s .args .kind) (s .args .first)
+    (s .args .count) (s .args .bound) (s .pre) (written d Comment (sym (c .enum-told .given .1) ∙ sorted d))
 
-rowed : (c : tie.After-known-told) → let s = start (c .before .before .before) in PartReady (s .args .mode) (now (s .args .weights)) (now (s .args .literals)) (now (s .args .text)) (s .args .kind) (s .args .first) (s .args .count) (s .args .bound) (s .pre) (c .before .shape .given .0 .0)
+rowed : (c : tie.After-known-told) → let s = start (c .before .before .before) in
+    PartReady (s .args .mode) (now (s .args .weights)) (now (s .args .literals)) (now (s .args .text)) (s .args .kind) (s .args .first)
+    (s .args .count) (s .args .bound) (s .pre) (c .before .shape .given .0 .0)
 rowed c =
     let d = c .before .before .before in
     let s = start d in
-    part-ready (s .args .mode) (now (s .args .weights)) (now (s .args .literals)) (now (s .args .text)) (s .args .kind) (s .args .first) (s .args .count) (s .args .bound) (s .pre) _ (written d (Row (c .before .shape .given .0 .0)) (sym (c .before .shape .given .1) ∙ sorted d))
+    part-ready (s .args .mode) (now (s .args .weights)) (now (s .args .literals)) (now (s .args .text)) (s .args .kind) (s .args .first)
+    (s .args .count) (s .args .bound) (s .pre)
+    _ (written d (Row (c .before .shape .given .0 .0)) (sym (c .before .shape .given .1) ∙ sorted d))
 
 sort-of-requires : tie.Need-sort-of-requires
 sort-of-requires c κs = search needs
@@ -123,7 +134,8 @@ returns-3 : tie.Need-returns-3
 returns-3 c =
     let d = c .before .before in
     let s = start d in
-    never-refused (s .args .mode) (now (s .args .weights)) (now (s .args .literals)) (now (s .args .text)) (s .args .kind) (s .args .first) (s .args .count) (s .args .bound) (s .pre) (written d Refused (sym (c .enum-told2 .given .1) ∙ sorted d))
+    never-refused (s .args .mode) (now (s .args .weights)) (now (s .args .literals)) (now (s .args .text)) (s .args .kind) (s .args .first)
+    (s .args .count) (s .args .bound) (s .pre) (written d Refused (sym (c .enum-told2 .given .1) ∙ sorted d))
 
 pub write-entry-spec : {M : Type 1} → statement M
 write-entry-spec =

@@ -5,15 +5,17 @@ use mir.Syntax.{w64}
 use mir.Val.{SFits}
 use mir.Facts.{toZ-ofZ}
 use Rattle.definitions.specs.Refusal.{accept}
-use Rattle.writer.specs.Bounds.{saidBound, printedBound}
+use Rattle.printed.specs.Bounds.{saidBound, printedBound}
 use Rattle.writer.proofs.lines.final_bound.Statement.{statement}
 use Rattle.writer.proofs.lines.final_bound.Tie as tie
 
-bound-said : (c : tie.After-printed-bound) → saidBound (c .printed-bound .result) ≡ printedBound (c .before .args .kind) (c .before .args .bound) (c .before .args .sums .total) (c .before .args .sums .fall)
+bound-said : (c : tie.After-printed-bound)
+    → saidBound (c .printed-bound .result) ≡ printedBound (c .before .args .kind) (c .before .args .bound) (c .before .args .sums .total)
+    (c .before .args .sums .fall)
 bound-said c = c .printed-bound .ensures ∙ rw (toZ-ofZ (c .before .fits .bound))
 
 printed-bound-requires : tie.Need-printed-bound-requires
-printed-bound-requires c κs = c .pre .falls
+printed-bound-requires c κs = search needs
 
 enum-known-z : tie.Need-enum-known-z
 enum-known-z c = search needs

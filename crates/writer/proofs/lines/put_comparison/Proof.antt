@@ -7,14 +7,16 @@ use mir.Facts.{toZ-ofZ}
 use denote.Ref.{now}
 use Rattle.definitions.specs.Number.{integerText}
 use Rattle.definitions.specs.Write.{comparisonText}
-use Rattle.writer.specs.Puts.{Puts}
-use Rattle.writer.specs.Rows.{operatorText}
-use Rattle.writer.proofs.Outputs.{puts-length, puts-then, byte-then, puts-two}
-use Rattle.writer.proofs.Frames.{comparison-length}
+use Rattle.definitions.proofs.Puts.{Puts}
+use Rattle.printed.specs.Rows.{operatorText}
+use Rattle.definitions.proofs.Puts.{puts-length, puts-then, byte-then}
+use Rattle.writer.proofs.Outputs.{puts-two}
+use Rattle.printed.proofs.Texts.{comparison-length}
 use Rattle.writer.proofs.lines.put_comparison.Statement.{statement}
 use Rattle.writer.proofs.lines.put_comparison.Tie as tie
 
-room : (c : tie.Start) → c .args .at + (length (operatorText (c .args .kind)) + length (integerText (c .args .z)) + 3) ≤ length (now (c .args .out))
+room : (c : tie.Start) → c .args .at + (length (operatorText (c .args .kind)) + length (integerText (c .args .z)) + 3)
+    ≤ length (now (c .args .out))
 room c = omega (arith, c .pre, comparison-length (c .args .z) (operatorText (c .args .kind)))
 
 module _ (c : tie.After-put-operator) where
@@ -22,13 +24,19 @@ module _ (c : tie.After-put-operator) where
   start = c .before .before .before
 
   operator-room : c .put-operator .result + (length (integerText (start .args .z)) + 3) ≤ length (c .put-operator .last .1 .0)
-  operator-room = omega (arith, room start, c .put-operator .ensures .place, puts-length (c .put-operator .ensures) (omega (arith, room start)))
+  operator-room = omega (
+    arith,
+    room start,
+    c .put-operator .ensures .place,
+    puts-length (c .put-operator .ensures) (omega (arith, room start)),
+  )
 
 module _ (c : tie.After-put-number) where
   abbrev operated : tie.After-put-operator
   operated = c .before .before .before .before
 
-  number-put : Puts (integerText (start operated .args .z)) (operated .put-operator .result + 1) (set (operated .put-operator .last .1 .0) (operated .put-operator .result) 32) (c .put-number .result) (c .put-number .last .1 .0)
+  number-put : Puts (integerText (start operated .args .z)) (operated .put-operator .result + 1)
+      (set (operated .put-operator .last .1 .0) (operated .put-operator .result) 32) (c .put-number .result) (c .put-number .last .1 .0)
   number-put = rw (toZ-ofZ (start operated .fits .z)) at (c .put-number .ensures)
 
   number-long : length (c .put-number .last .1 .0) ≡ length (operated .put-operator .last .1 .0)

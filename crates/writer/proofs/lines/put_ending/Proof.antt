@@ -6,7 +6,7 @@ use Prim.Native.Nat.{_+_}
 use lib.ListN.{length-set}
 use mir.Facts.{toZ-ofZ}
 use denote.Ref.{now}
-use Rattle.writer.proofs.Outputs.{byte-then}
+use Rattle.definitions.proofs.Puts.{byte-then}
 use Rattle.writer.proofs.lines.put_ending.Statement.{statement}
 use Rattle.writer.proofs.lines.put_ending.Tie as tie
 

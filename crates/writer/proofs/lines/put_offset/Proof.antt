@@ -12,9 +12,9 @@ use mir.Facts.{toZ-ofZ}
 use denote.Ref.{now}
 use Rattle.definitions.specs.Number.{integerText}
 use Rattle.definitions.specs.Write.{offsetWords, remarkText}
-use Rattle.writer.specs.Puts.{Puts}
-use Rattle.writer.proofs.Outputs.{puts-as, puts-length, puts-then, then-byte, puts-none}
-use Rattle.writer.proofs.Frames.{no-offset, some-offset, offset-length}
+use Rattle.definitions.proofs.Puts.{Puts}
+use Rattle.definitions.proofs.Puts.{puts-as, puts-length, puts-then, then-byte, puts-none}
+use Rattle.printed.proofs.Texts.{no-offset, some-offset, offset-length}
 use Rattle.writer.proofs.lines.put_offset.Statement.{statement}
 use Rattle.writer.proofs.lines.put_offset.Tie as tie
 
@@ -48,8 +48,10 @@ module _ (c : tie.After-put-number) where
   abbrev begun : tie.Start
   begun = start (tested worded)
 
-  number-put : Puts (words ++ integerText (begun .args .z)) (begun .args .at) (now (begun .args .out)) (c .put-number .result) (c .put-number .last .1 .0)
-  number-put = puts-then (words-put worded) (omega (arith, room (tested worded))) (rw (toZ-ofZ (begun .fits .z)) at (c .put-number .ensures))
+  number-put : Puts (words ++ integerText (begun .args .z)) (begun .args .at) (now (begun .args .out)) (c .put-number .result)
+      (c .put-number .last .1 .0)
+  number-put = puts-then (words-put worded) (omega (arith, room (tested worded)))
+      (rw (toZ-ofZ (begun .fits .z)) at (c .put-number .ensures))
 
   number-long : length (c .put-number .last .1 .0) ≡ length (now (begun .args .out))
   number-long = puts-length number-put (omega (arith, room (tested worded)))
@@ -60,7 +62,8 @@ module _ (c : tie.After-put-number) where
 returns : tie.Need-returns
 returns c =
     let s = c .before .before in
-    puts-as (puts-none (s .args .at) (now (s .args .out))) (sym (no-offset (s .args .z) (sym (toZ-ofZ (s .fits .z)) ∙ ap (toZ w64) (c .if1 .taken))))
+    puts-as (puts-none (s .args .at) (now (s .args .out)))
+    (sym (no-offset (s .args .z) (sym (toZ-ofZ (s .fits .z)) ∙ ap (toZ w64) (c .if1 .taken))))
 
 slice-aggregate-put-text : tie.Need-slice-aggregate-put-text
 slice-aggregate-put-text c = search needs

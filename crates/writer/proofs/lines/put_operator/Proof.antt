@@ -6,9 +6,10 @@ use mathlib.Core.List.{[], _∷_}
 use Prim.Native.Nat.{_+_, _≤_}
 use lib.ListN.{length, length-set}
 use denote.Ref.{now}
-use Rattle.writer.specs.Rows.{operatorText}
-use Rattle.writer.proofs.Outputs.{puts-as, puts-byte, puts-two}
-use Rattle.writer.proofs.Frames.{operator-equal, operator-other}
+use Rattle.printed.specs.Rows.{operatorText}
+use Rattle.definitions.proofs.Puts.{puts-as, puts-byte}
+use Rattle.writer.proofs.Outputs.{puts-two}
+use Rattle.printed.proofs.Texts.{operator-equal, operator-other}
 use Rattle.writer.proofs.lines.put_operator.Statement.{statement}
 use Rattle.writer.proofs.lines.put_operator.Tie as tie
 

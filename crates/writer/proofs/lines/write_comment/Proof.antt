@@ -5,8 +5,8 @@ use Prim.Native.Nat.{_+_, _≤_}
 use lib.ListN.{length, length-set}
 use denote.Ref.{now}
 use Rattle.definitions.specs.Write.{remarkText}
-use Rattle.writer.proofs.Outputs.{byte-then, then-byte}
-use Rattle.writer.proofs.Frames.{remark-length}
+use Rattle.definitions.proofs.Puts.{byte-then, then-byte}
+use Rattle.printed.proofs.Texts.{remark-length}
 use Rattle.writer.proofs.lines.write_comment.Statement.{statement}
 use Rattle.writer.proofs.lines.write_comment.Tie as tie
 

@@ -13,12 +13,12 @@ use mir.Facts.{toZ-ofZ}
 use denote.Ref.{now}
 use Rattle.definitions.specs.Bytes.{minText}
 use Rattle.definitions.specs.Write.{closed, offsetText, printed}
-use Rattle.writer.specs.Puts.{Puts}
-use Rattle.writer.specs.Rows.{rowOn}
-use Rattle.writer.specs.Kinds.{styleOf}
-use Rattle.writer.specs.Terms.{ownTerms}
+use Rattle.definitions.proofs.Puts.{Puts}
+use Rattle.printed.specs.Rows.{rowOn}
+use Rattle.printed.specs.Kinds.{styleOf}
+use Rattle.printed.specs.Terms.{ownTerms}
 use Rattle.writer.specs.Ready.{PutsTerms}
-use Rattle.writer.proofs.Outputs.{puts-length, puts-as}
+use Rattle.definitions.proofs.Puts.{puts-length, puts-as}
 use Rattle.writer.proofs.WrittenLines.{puts-terms-as, terms-ready, bound-ready, bound-is, objective-room, objective-puts}
 use Rattle.writer.proofs.lines.write_objective.Statement.{statement}
 use Rattle.writer.proofs.lines.write_objective.Tie as tie
@@ -40,12 +40,20 @@ module _ (c : tie.After-put-terms) where
   abbrev start : tie.Start
   start = began worded
 
-  terms-put : PutsTerms (styleOf (start .args .shape) (start .args .mode)) (ownTerms (start .args .shape .unit) (now (start .args .weights)) (now (start .args .literals))) (worded .put-text .result) (worded .put-text .last .1 .0) (c .put-terms .result) (c .put-terms .last .1 .1 .1 .0)
-  terms-put = puts-terms-as (now (start .args .weights)) (now (start .args .literals)) (c .put-terms .ensures) (worded .before .before .before .style-of .ensures)
+  terms-put : PutsTerms (styleOf (start .args .shape) (start .args .mode))
+      (ownTerms (start .args .shape .unit) (now (start .args .weights)) (now (start .args .literals))) (worded .put-text .result)
+      (worded .put-text .last .1 .0) (c .put-terms .result) (c .put-terms .last .1 .1 .1 .0)
+  terms-put = puts-terms-as (now (start .args .weights)) (now (start .args .literals)) (c .put-terms .ensures)
+      (worded .before .before .before .style-of .ensures)
 
   terms-long : length (c .put-terms .last .1 .1 .1 .0) ≡ length (now (start .args .out))
   terms-long =
-      puts-length (terms-put .text) (omega (arith, objective-room (start .pre .ready) (start .pre .kind), word-put worded .place, word-long worded)) ∙ word-long worded
+      puts-length (terms-put .text) (omega (
+        arith,
+        objective-room (start .pre .ready) (start .pre .kind),
+        word-put worded .place,
+        word-long worded,
+      )) ∙ word-long worded
 
 bound-fits : (c : tie.After-struct-told) → SFits w64 (start (c .before .before .before) .args .shape .bound)
 bound-fits c = record { sfits = c .struct-told .given .1 .1 .0 .1 }
@@ -54,10 +62,13 @@ module _ (c : tie.After-final-bound) where
   abbrev termed : tie.After-put-terms
   termed = c .before .before .before .before .before
 
-  bound-said : toZ w64 (ofZ w64 (c .final-bound .result)) ≡ printed (start termed .args .mode .plain) (rowOn (start termed .args .shape) (now (start termed .args .weights)) (now (start termed .args .literals))) .bound
+  bound-said : toZ w64 (ofZ w64 (c .final-bound .result))
+      ≡ printed (start termed .args .mode .plain)
+      (rowOn (start termed .args .shape) (now (start termed .args .weights)) (now (start termed .args .literals))) .bound
   bound-said =
       toZ-ofZ (sfits-of (c .final-bound .ok))
-      ∙ bound-is (start termed .pre .ready) _ (terms-put termed .sums) _ (rw (toZ-ofZ (bound-fits (c .before .before))) at (c .final-bound .ensures))
+      ∙ bound-is (start termed .pre .ready) _ (terms-put termed .sums)
+      _ (rw (toZ-ofZ (bound-fits (c .before .before))) at (c .final-bound .ensures))
 
 style-of-requires : tie.Need-style-of-requires
 style-of-requires c κs = search needs
@@ -85,8 +96,16 @@ put-ending-requires c κs =
     let b = c .before in
     let p = termed b in
     let s = start p in
-    let h : p .put-terms .result .at + length (closed ++ offsetText (toZ w64 (ofZ w64 (b .final-bound .result)))) ≤ length (p .put-terms .last .1 .1 .1 .0) =
-    omega (arith, objective-room (s .pre .ready) (s .pre .kind), word-put (worded p) .place, terms-put p .text .place, terms-long p, ap (λ (z : ℤ). length (closed ++ offsetText z)) (bound-said b)) in
+    let h : p .put-terms .result .at + length (closed ++ offsetText (toZ w64 (ofZ w64 (b .final-bound .result))))
+    ≤ length (p .put-terms .last .1 .1 .1 .0) =
+    omega (
+      arith,
+      objective-room (s .pre .ready) (s .pre .kind),
+      word-put (worded p) .place,
+      terms-put p .text .place,
+      terms-long p,
+      ap (λ (z : ℤ). length (closed ++ offsetText z)) (bound-said b),
+    ) in
     h
 
 same-length : tie.Need-same-length

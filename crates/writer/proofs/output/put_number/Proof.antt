@@ -1,6 +1,9 @@
-use borrow.Author.Needs.{needs}
+-- `put_number` meets its contract: since there is room, the print answers its end.
+use mathlib.Core.Path.{sym, ap, _∙_}
 use mir.Facts.{toZ-ofZ}
-use Rattle.writer.proofs.Outputs.{printed-done, printed-full}
+use Rattle.definitions.proofs.Puts.{put-done, put-full}
+use Rattle.outputs.specs.Print.{put}
+use borrow.Author.Needs.{needs}
 use Rattle.writer.proofs.output.put_number.Statement.{statement}
 use Rattle.writer.proofs.output.put_number.Tie as tie
 
@@ -18,14 +21,19 @@ same-length c = search needs
 
 returns : tie.Need-returns
 returns c =
-    printed-done (rw (toZ-ofZ (c .before .before .before .before .before .before .before .before .fits .z)) at (c .before .before .before .before .before .print-number .ensures)) (c .before .before .before .before .before .before .before .before .pre) _ (c .before .end .given .1)
+    let p = rw (toZ-ofZ (c .before .before .before .before .before .before .before .before .fits .z))
+    at (c .before .before .before .before .before .print-number .ensures) in
+    put-done _ _ _ (c .before .before .before .before .before .before .before .before .pre)
+    (sym (ap put (c .before .end .given .1)) ∙ p .answer) (p .after)
 
 same-length-2 : tie.Need-same-length-2
 same-length-2 c = search needs
 
 returns-2 : tie.Need-returns-2
 returns-2 c =
-    printed-full (rw (toZ-ofZ (c .before .before .before .before .before .before .before .fits .z)) at (c .before .before .before .before .print-number .ensures)) (c .before .before .before .before .before .before .before .pre) (c .enum-told .given .1)
+    let p = rw (toZ-ofZ (c .before .before .before .before .before .before .before .fits .z))
+    at (c .before .before .before .before .print-number .ensures) in
+    put-full _ _ _ (c .before .before .before .before .before .before .before .pre) (sym (ap put (c .enum-told .given .1)) ∙ p .answer)
 
 pub put-number-spec : {M : Type 1} → statement M
 put-number-spec =

@@ -1,5 +1,8 @@
+-- `put_text` meets its contract: since there is room, the print answers its end.
+use mathlib.Core.Path.{sym, ap, _∙_}
+use Rattle.definitions.proofs.Puts.{put-done, put-full}
+use Rattle.outputs.specs.Print.{put}
 use borrow.Author.Needs.{needs}
-use Rattle.writer.proofs.Outputs.{printed-done, printed-full}
 use Rattle.writer.proofs.output.put_text.Statement.{statement}
 use Rattle.writer.proofs.output.put_text.Tie as tie
 
@@ -17,14 +20,18 @@ same-length c = search needs
 
 returns : tie.Need-returns
 returns c =
-    printed-done (c .before .before .before .before .before .print-text .ensures) (c .before .before .before .before .before .before .before .before .before .pre) _ (c .before .end .given .1)
+    let p = c .before .before .before .before .before .print-text .ensures in
+    put-done _ _ _ (c .before .before .before .before .before .before .before .before .before .pre)
+    (sym (ap put (c .before .end .given .1)) ∙ p .answer) (p .after)
 
 same-length-2 : tie.Need-same-length-2
 same-length-2 c = search needs
 
 returns-2 : tie.Need-returns-2
 returns-2 c =
-    printed-full (c .before .before .before .before .print-text .ensures) (c .before .before .before .before .before .before .before .before .pre) (c .enum-told .given .1)
+    let p = c .before .before .before .before .print-text .ensures in
+    put-full _ _ _ (c .before .before .before .before .before .before .before .before .pre)
+    (sym (ap put (c .enum-told .given .1)) ∙ p .answer)
 
 pub put-text-spec : {M : Type 1} → statement M
 put-text-spec =

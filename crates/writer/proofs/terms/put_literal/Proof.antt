@@ -6,16 +6,26 @@ use Prim.Native.Nat.{_+_, _≤_}
 use lib.ListN.{length, length-set}
 use denote.Ref.{now}
 use Rattle.definitions.specs.Number.{decimal}
-use Rattle.writer.proofs.Outputs.{puts-as, byte-then}
-use Rattle.writer.proofs.OneTerm.{literal-words-some, literal-words-tilde, literal-words-plain}
+use Rattle.definitions.proofs.Puts.{puts-as, byte-then}
+use Rattle.printed.proofs.OneTerm.{literal-words-some, literal-words-tilde, literal-words-plain}
 use Rattle.writer.proofs.terms.put_literal.Statement.{statement}
 use Rattle.writer.proofs.terms.put_literal.Tie as tie
 
-tilde-room : (c : tie.Then1) → c .before .before .before .args .at + (length (decimal (c .before .before .before .args .n .0)) + 3) ≤ length (now (c .before .before .before .args .out))
-tilde-room c = omega (arith, c .before .before .before .pre, literal-words-tilde (c .before .before .before .args .tilde) (c .before .before .before .args .n .0) (c .if1 .taken))
+tilde-room : (c : tie.Then1) → c .before .before .before .args .at + (length (decimal (c .before .before .before .args .n .0)) + 3)
+    ≤ length (now (c .before .before .before .args .out))
+tilde-room c = omega (
+  arith,
+  c .before .before .before .pre,
+  literal-words-tilde (c .before .before .before .args .tilde) (c .before .before .before .args .n .0) (c .if1 .taken),
+)
 
-plain-room : (c : tie.Else1) → c .before .before .before .args .at + (length (decimal (c .before .before .before .args .n .0)) + 2) ≤ length (now (c .before .before .before .args .out))
-plain-room c = omega (arith, c .before .before .before .pre, literal-words-plain (c .before .before .before .args .tilde) (c .before .before .before .args .n .0) (c .if1 .left))
+plain-room : (c : tie.Else1) → c .before .before .before .args .at + (length (decimal (c .before .before .before .args .n .0)) + 2)
+    ≤ length (now (c .before .before .before .args .out))
+plain-room c = omega (
+  arith,
+  c .before .before .before .pre,
+  literal-words-plain (c .before .before .before .args .tilde) (c .before .before .before .args .n .0) (c .if1 .left),
+)
 
 -- the digits are those of the file number
 digits : (c : tie.After-number) → decimal (c .number .result) ≡ decimal (c .before .before .args .n .0)

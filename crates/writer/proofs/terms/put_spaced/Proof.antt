@@ -6,11 +6,12 @@ use mathlib.Core.Bool.{Bool, true, false}
 use mathlib.Core.List.{List}
 use mathlib.Core.Logic.{⊎-elim}
 use Prim.Native.Nat.{ℕ, _+_, _≤_, _<_}
-use lib.ListN.{length, set, length-set}
+use lib.ListN.{length, length-set}
 use denote.Ref.{now}
-use Rattle.writer.specs.Terms.{termWords}
-use Rattle.writer.proofs.Outputs.{byte-then, then-byte, puts-over}
-use Rattle.writer.proofs.OneTerm.{literal-words-some, term-words-length}
+use Rattle.printed.specs.Terms.{termWords}
+use Rattle.definitions.proofs.Puts.{byte-then, then-byte}
+use Rattle.writer.proofs.Outputs.{puts-over}
+use Rattle.printed.proofs.OneTerm.{literal-words-some, term-words-length}
 use Rattle.writer.proofs.terms.put_spaced.Statement.{statement}
 use Rattle.writer.proofs.terms.put_spaced.Tie as tie
 
@@ -29,7 +30,11 @@ module _ (c : tie.Joined1) where
   within = ⊎-elim (λ w. omega (arith, w .1, start .pre)) (λ w. omega (arith, w .1, start .pre)) (c .if1 .came)
 
   some : 0 < length words
-  some = omega (arith, term-words-length (start .args .t) (start .args .n .0), literal-words-some (start .args .t .tilde) (start .args .n .0))
+  some = omega (
+    arith,
+    term-words-length (start .args .t) (start .args .n .0),
+    literal-words-some (start .args .t .tilde) (start .args .n .0),
+  )
 
   behind : start .args .apart ≡ true → c .if1 .from ≡ start .args .at + 1
   behind e = ⊎-elim (λ w. w .1) (λ w. clash (start .args .apart) e (w .0 .left)) (c .if1 .came)
@@ -42,7 +47,8 @@ kept : (c : tie.After-put-term) → length (c .put-term .last .1 .1 .0) ≡ leng
 kept c = c .put-term .kept .1 .1 .0 ∙ simp length-set
 
 -- where the term ends
-end-is : (c : tie.Else2) → c .before .before .before .put-term .result ≡ start (c .before .before .before .before .before) .args .at + length (words (c .before .before .before .before .before))
+end-is : (c : tie.Else2) → c .before .before .before .put-term .result
+    ≡ start (c .before .before .before .before .before) .args .at + length (words (c .before .before .before .before .before))
 end-is c =
     let p = c .before .before .before in
     let j = p .before .before in
@@ -65,7 +71,8 @@ returns c =
     let p = c .before .before .before in
     let j = p .before .before in
     let a = start j .args in
-    rw (c .if2 .taken) (byte-then 32 (a .at) (j .if1 .from) (now (a .out)) (omega (arith, start j .pre)) (behind j (c .if2 .taken)) (p .put-term .ensures))
+    rw (c .if2 .taken) (byte-then 32 (a .at) (j .if1 .from) (now (a .out)) (omega (arith, start j .pre)) (behind j (c .if2 .taken))
+    (p .put-term .ensures))
 
 slice-write-out-2 : tie.Need-slice-write-out-2
 slice-write-out-2 c =

@@ -8,10 +8,10 @@ use mir.Val.{SFits}
 use mir.Facts.{toZ-ofZ}
 use denote.Ref.{now}
 use Rattle.definitions.specs.Number.{integerText}
-use Rattle.writer.specs.Puts.{Puts}
-use Rattle.writer.specs.Terms.{termWords, literalWords}
-use Rattle.writer.proofs.Outputs.{puts-length, puts-then}
-use Rattle.writer.proofs.OneTerm.{term-words-length}
+use Rattle.definitions.proofs.Puts.{Puts}
+use Rattle.printed.specs.Terms.{termWords, literalWords}
+use Rattle.definitions.proofs.Puts.{puts-length, puts-then}
+use Rattle.printed.proofs.OneTerm.{term-words-length}
 use Rattle.writer.proofs.terms.put_term.Statement.{statement}
 use Rattle.writer.proofs.terms.put_term.Tie as tie
 
@@ -20,16 +20,18 @@ module _ (c : tie.After-struct-told) where
   start = c .before .before
 
   weight-fits : SFits w64 (start .args .t .weight)
-  weight-fits = record { sfits = c .struct-told .given .0 .1 }
+  weight-fits = record { sfits = c .struct-told .given .1 .0 .1 }
 
-  room : start .args .at + (length (integerText (start .args .t .weight)) + length (literalWords (start .args .t .tilde) (start .args .n .0))) ≤ length (now (start .args .out))
+  room : start .args .at + (length (integerText (start .args .t .weight)) +
+      length (literalWords (start .args .t .tilde) (start .args .n .0))) ≤ length (now (start .args .out))
   room = omega (arith, start .pre, term-words-length (start .args .t) (start .args .n .0))
 
 module _ (c : tie.After-put-number) where
   abbrev told : tie.After-struct-told
   told = c .before .before
 
-  weight-put : Puts (integerText (start told .args .t .weight)) (start told .args .at) (now (start told .args .out)) (c .put-number .result) (c .put-number .last .1 .0)
+  weight-put : Puts (integerText (start told .args .t .weight)) (start told .args .at) (now (start told .args .out)) (c .put-number .result)
+      (c .put-number .last .1 .0)
   weight-put = rw (toZ-ofZ (weight-fits told)) at (c .put-number .ensures)
 
   weight-long : length (c .put-number .last .1 .0) ≡ length (now (start told .args .out))

@@ -1,0 +1,4 @@
+pub mod Bits
+pub mod Known
+pub mod Lists
+pub mod OneAnswer

@@ -1,0 +1,4 @@
+pub mod TermsWalk
+pub mod Entries
+pub mod RowsWalk
+pub mod OneAnswer

@@ -1,0 +1,5 @@
+pub mod Numbered
+pub mod SumLengths
+pub mod LineLengths
+pub mod FileLengths
+pub mod OneAnswer

@@ -1,4 +1,0 @@
-pub mod Told
-pub mod OneAnswer
-pub mod Refusals
-pub mod ZeroAccepts

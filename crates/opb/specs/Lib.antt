@@ -1,3 +1,0 @@
-pub mod Answers
-pub mod Accepts
-pub mod Calls

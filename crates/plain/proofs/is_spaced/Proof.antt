@@ -1,0 +1,38 @@
+-- `is_spaced` meets its contract: three bytes, one test each.
+use borrow.Author.Needs.{needs}
+use borrow.Author.Tests.{eq-eqb, ne-eqb}
+use Rattle.plain.proofs.is_spaced.Statement.{statement}
+use Rattle.plain.proofs.is_spaced.Tie as tie
+
+shared-slice-read-if1 : tie.Need-shared-slice-read-if1
+shared-slice-read-if1 c = search needs
+
+returns : tie.Need-returns
+returns c = rw (ne-eqb _ _ (c .if1 .taken))
+
+sub-if2 : tie.Need-sub-if2
+sub-if2 c = search needs
+
+shared-slice-read-if2 : tie.Need-shared-slice-read-if2
+shared-slice-read-if2 c = search needs
+
+returns-2 : tie.Need-returns-2
+returns-2 c = rw (eq-eqb _ _ (c .before .before .if1 .left), ne-eqb _ _ (c .if2 .taken))
+
+shared-slice-read-result : tie.Need-shared-slice-read-result
+shared-slice-read-result c = search needs
+
+returns-3 : tie.Need-returns-3
+returns-3 c = rw (eq-eqb _ _ (c .before .before .before .if1 .left), eq-eqb _ _ (c .before .if2 .left))
+
+pub is-spaced-spec : {M : Type 1} → statement M
+is-spaced-spec =
+    tie.close
+    (tie.spec
+    shared-slice-read-if1
+    returns
+    sub-if2
+    shared-slice-read-if2
+    returns-2
+    shared-slice-read-result
+    returns-3)

@@ -1,0 +1,10 @@
+pub mod Tests
+pub mod Sorts
+pub mod OneTerm
+pub mod AllTerms
+pub mod WeightSums
+pub mod Differences
+pub mod PrintedRows
+pub mod Texts
+pub mod OneEntry
+pub mod OneAnswer

@@ -1,0 +1,5 @@
+pub mod Kinds
+pub mod Terms
+pub mod Sums
+pub mod Bounds
+pub mod Rows

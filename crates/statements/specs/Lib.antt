@@ -1,0 +1,6 @@
+pub mod Brief
+pub mod Said
+pub mod Fitting
+pub mod Met
+pub mod Walked
+pub mod FillsTerms

@@ -1,0 +1,5 @@
+pub mod MetTerms
+pub mod Sums
+pub mod Walking
+pub mod Runs
+pub mod OneAnswer

@@ -1,0 +1,4 @@
+pub mod Brief
+pub mod Met
+pub mod Walked
+pub mod Run
