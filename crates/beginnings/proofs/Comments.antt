@@ -10,6 +10,7 @@ use borrow.Author.Tests.{eq-eqb, ne-eqb, eqb-true}
 use lib.Dec.{eqb}
 use lib.ListN.{length, getD, drop, length-drop}
 use lib.IntN.{pos}
+use Rattle.definitions.specs.Refusal.{fault}
 use Rattle.definitions.specs.Lists.{startsWith}
 use Rattle.definitions.specs.Bytes.{isAt, blanks, lineEnding, untilEnding, space, minText, letterM, colon}
 use Rattle.definitions.specs.Reader.{none, got}
@@ -17,7 +18,7 @@ use Rattle.definitions.specs.Row.{comment}
 use Rattle.definitions.specs.Text.{gap, minWord, minBlanks, remark}
 use Rattle.definitions.proofs.Chains.{chain-none, chain-got}
 use Rattle.definitions.proofs.Texts.{until-within, ending-within}
-use Rattle.symbols.proofs.At.{at-is}
+use Rattle.blanks.proofs.At.{at-is}
 
 -- ---- a word at the front
 
@@ -46,14 +47,14 @@ starts-same (p ∷ w) (b ∷ s) h e = rw (eq-eqb b p (e 0 (omega arith))) (start
 
 -- ---- `min:`, blanks
 
-min-none : (s : List ℕ) → startsWith minText s ≡ false → minBlanks s ≡ none 2
+min-none : (s : List ℕ) → startsWith minText s ≡ false → minBlanks s ≡ none (fault 2)
 unfolding minBlanks minWord
-min-none s e = chain-none minWord (λ _. gap) s 2 (rw e)
+min-none s e = chain-none minWord (λ _. gap) s (fault 2) (rw e)
 
-pub min-short : (s : List ℕ) → length s < 4 → minBlanks s ≡ none 2
+pub min-short : (s : List ℕ) → length s < 4 → minBlanks s ≡ none (fault 2)
 min-short s h = min-none s (starts-short minText s h)
 
-pub min-other : (s : List ℕ) (i : ℕ) → i < 4 → (getD s i 0 ≡ getD minText i 0 → ⊥) → minBlanks s ≡ none 2
+pub min-other : (s : List ℕ) (i : ℕ) → i < 4 → (getD s i 0 ≡ getD minText i 0 → ⊥) → minBlanks s ≡ none (fault 2)
 min-other s i h n = min-none s (starts-other minText s i h n)
 
 pub min-got : (s : List ℕ) (k : ℕ) → 4 ≤ length s → getD s 0 0 ≡ letterM → getD s 1 0 ≡ 105 → getD s 2 0 ≡ 110 → getD s 3 0 ≡ colon
@@ -70,7 +71,7 @@ min-got s k h m i n c e = chain-got minWord (λ _. gap) s 0 4 (rw (starts-same m
 
 -- ---- comments
 
-pub remark-empty : (s : List ℕ) → length s ≡ 0 → remark s ≡ none 2
+pub remark-empty : (s : List ℕ) → length s ≡ 0 → remark s ≡ none (fault 2)
 unfolding remark
 remark-empty [] e = refl
 remark-empty (b ∷ s) e = absurd (omega arith)

@@ -10,7 +10,8 @@ pub enum MinRead {
     Missing,
 }
 
-// Where a comment's text begins, counted from its `*`, how long it is, and the bytes that the comment takes with its line ending.
+// Where a comment's text begins, counted from its `*`, how long it is, and the bytes that the comment takes with its
+// line ending.
 pub enum CommentRead {
     Comment {
         first: usize,
@@ -38,19 +39,20 @@ pub fn read_min(s: &[u8]) -> MinRead
     if s[3] != b':' {
         return MinRead::Missing;
     }
-    MinRead::Min(symbols::blanks_of(&s[4..]))
+    MinRead::Min(blanks::blanks_of(&s[4..]))
 }
 
-// "`*`: comment to the line ending or file end, any bytes"; the text begins "after `*` and after one space directly behind it, if there"
+// "`*`: comment to the line ending or file end, any bytes"; the text begins "after `*` and after one space directly
+// behind it, if there"
 pub fn read_comment(s: &[u8]) -> CommentRead
     ensures { λ r. ⌜ saidComment r ≡ remark (now (s .entry)) ⌝ }
 {
     if s.len() == 0 {
         return CommentRead::Missing;
     }
-    let n = symbols::until_ending_of(&s[1..]);
+    let n = blanks::until_ending_of(&s[1..]);
     let e = n + 1;
-    let taken = e + symbols::line_ending_of(&s[e..]);
+    let taken = e + blanks::line_ending_of(&s[e..]);
     if 0 < n {
         if s[1] == b' ' {
             return CommentRead::Comment {

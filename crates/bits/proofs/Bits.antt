@@ -1,5 +1,5 @@
--- Bits of words: a word with one bit made has that bit, keeps the others and stays as wide; and so for the bit of a variable in a row of
--- words.
+-- Bits of words: a word with one bit made has that bit, keeps the others and stays as wide; and so for the bit of a
+-- variable in a row of words.
 use Prim.Native.Nat.{ℕ, suc, _+_, _-_, _*_, _/_, _%_, _^_, _≤_, _<_}
 use mathlib.Core.Path.{_≡_, refl, sym, ap, _∙_}
 use mathlib.Core.Bool.{Bool, true, false, cond}

@@ -1,5 +1,5 @@
--- Each public function has one possible answer for each input, and leaves one content in what it is lent: two that its contract allows are
--- equal.
+-- Each public function has one possible answer for each input, and leaves one content in what it is lent: two that its
+-- contract allows are equal.
 use mathlib.Core.Path.{_≡_, sym, _∙_}
 use denote.Ref.{now}
 use Rattle.bits.proofs.bit_at.Reads as bit-at

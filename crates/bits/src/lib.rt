@@ -1,5 +1,6 @@
-// Bits of lent words: "variable v is bit v mod 64 of word v/64" (01); and by them what two rows of words, the values and which of them are known, say of a
-// literal (02, A1). A bit beyond the words is 0, and making it changes nothing. Assumes nothing.
+// Bits of lent words: "variable v is bit v mod 64 of word v/64" (01); and by them what two rows of words, the values
+// and which of them are known, say of a literal (02, A1). A bit beyond the words is 0, and making it changes nothing.
+// Assumes nothing.
 use literals::Lit;
 ghost use mathlib.Core.Path.{_≡_};
 ghost use mathlib.Core.Bool.{not, _&&_};

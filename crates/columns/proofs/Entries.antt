@@ -2,7 +2,9 @@
 use Prim.Native.Nat.{ℕ}
 use mathlib.Core.Path.{_≡_, refl}
 use lib.ListN.{length}
-use Rattle.definitions.specs.Row.{Kind, atLeast, atMost, equal, objective, Line, comment, row, termsOf}
+use Rattle.definitions.specs.Row.{Line, comment, row, termsOf}
+use Rattle.definitions.specs.declared.Kind.{Kind}
+use Rattle.definitions.specs.declared.Kind.the-variants.{AtLeast as atLeast, AtMost as atMost, Equal as equal, Objective as objective}
 use Rattle.definitions.specs.Table.{kindNumber}
 use Rattle.columns.specs.Kinds.{termsOfKind, firstOfKind}
 use Rattle.columns.specs.Entries.{entryAlone}

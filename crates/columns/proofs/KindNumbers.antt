@@ -1,5 +1,5 @@
--- The numbers in the column of kinds: which kind each is, that `readKind` is the definition's `sortOf` where a row is a read row's,
--- and that any other row is 11.
+-- The numbers in the column of kinds: which kind each is, that `readKind` is the definition's `sortOf` where a row is a
+-- read row's, and that any other row is 11.
 use Prim.Native.Nat.{ℕ, zero, suc, _≤_, _<_}
 use mathlib.Core.Path.{_≡_, refl, ap}
 use mathlib.Core.Bool.{Bool, true, false, cond}
@@ -9,7 +9,7 @@ use native.Mathlib.Omega.{arith}
 use borrow.Author.Tests.{ne-eqb}
 use lib.Dec.{eqb}
 use Rattle.definitions.specs.Refusal.{refuse}
-use Rattle.definitions.specs.Row.{atLeast, atMost, equal, objective}
+use Rattle.definitions.specs.declared.Kind.the-variants.{AtLeast as atLeast, AtMost as atMost, Equal as equal, Objective as objective}
 use Rattle.definitions.specs.Table.{Table, table, kindNumber, Sort, remark, clause, unknown, weighted, cardinality, sortOf, lineBy, lineIn}
 use Rattle.definitions.specs.declared.Entry.{Entry}
 use Rattle.columns.specs.Kinds.{readKind}

@@ -1,6 +1,5 @@
 pub mod Every
 pub mod Sizes
-pub mod Sums
 pub mod Terms
 pub mod OneAnswer
 pub mod KindNumbers

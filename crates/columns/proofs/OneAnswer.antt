@@ -1,4 +1,5 @@
--- Each public function has one possible answer for each input: two that its contract allows are equal. None changes what it is lent.
+-- Each public function has one possible answer for each input: two that its contract allows are equal. None changes
+-- what it is lent.
 use mathlib.Core.Path.{_≡_, sym, _∙_}
 use Rattle.columns.proofs.lesser.Reads as lesser
 use Rattle.columns.proofs.row_room.Reads as row-room
@@ -9,7 +10,6 @@ use Rattle.columns.proofs.first_of.Reads as first-of
 use Rattle.columns.proofs.indexed_of.Reads as indexed-of
 use Rattle.columns.proofs.add_size.Reads as add-size
 use Rattle.columns.proofs.sizes_of.Reads as sizes-of
-use Rattle.columns.proofs.sum_fits.Reads as sum-fits
 
 pub lesser-one : (κs : _) (a : _) (r r' : _) (s s' : _) → lesser.Post κs a r s → lesser.Post κs a r' s' → r ≡ r'
 lesser-one κs a r r' s s' p q = p ∙ sym q
@@ -37,6 +37,3 @@ add-size-one κs a r r' s s' p q = p ∙ sym q
 
 pub sizes-of-one : (κs : _) (a : _) (r r' : _) (s s' : _) → sizes-of.Post κs a r s → sizes-of.Post κs a r' s' → r ≡ r'
 sizes-of-one κs a r r' s s' p q = p ∙ sym q
-
-pub sum-fits-one : (κs : _) (a : _) (r r' : _) (s s' : _) → sum-fits.Post κs a r s → sum-fits.Post κs a r' s' → r ≡ r'
-sum-fits-one κs a r r' s s' p q = p ∙ sym q

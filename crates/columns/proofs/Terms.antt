@@ -1,4 +1,5 @@
--- Rows and terms in columns, in words of the columns themselves: what a row's entry is, what terms it names, and what is asked of them.
+-- Rows and terms in columns, in words of the columns themselves: what a row's entry is, what terms it names, and what
+-- is asked of them.
 use mathlib.Core.Path.{_≡_, refl, sym, ap, _∙_}
 use mathlib.Core.Bool.{Bool, true, _&&_}
 use mathlib.Core.List.{List, [], _∷_, _++_, map, map-id}

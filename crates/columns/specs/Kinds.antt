@@ -1,8 +1,10 @@
--- The number of a row in the column of kinds: of a read row that is no comment, and what a comment has in the other columns.
+-- The number of a row in the column of kinds: of a read row that is no comment, and what a comment has in the other
+-- columns.
 use Prim.Native.Nat.{ℕ}
 use mathlib.Core.Bool.{cond}
 use lib.Dec.{eqb}
-use Rattle.definitions.specs.Row.{Kind, atLeast, atMost, equal, objective}
+use Rattle.definitions.specs.declared.Kind.{Kind}
+use Rattle.definitions.specs.declared.Kind.the-variants.{AtLeast as atLeast, AtMost as atMost, Equal as equal, Objective as objective}
 
 -- 1 at least, 2 at most, 3 equal, 4 objective
 unfoldable pub readKind : ℕ → Kind

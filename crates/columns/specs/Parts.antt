@@ -1,5 +1,5 @@
--- What is asked of the terms of a row, in words of the two columns that hold them. proofs/Terms.antt ties each to the definition
--- over terms.
+-- What is asked of the terms of a row, in words of the two columns that hold them. proofs/Terms.antt ties each to the
+-- definition over terms.
 use Prim.Native.Nat.{ℕ, _+_}
 use mathlib.Core.Bool.{Bool, true, _&&_}
 use mathlib.Core.List.{List, [], _∷_}

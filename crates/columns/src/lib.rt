@@ -1,25 +1,19 @@
-// What is asked of rows and terms in lent columns (01, "Numbers and tables"), by reader, normaliser, evaluator and writer alike: how many there is room for,
-// which terms a row of a kind has and whether they lie in their columns, whether its variables are within the limit, how large its weights are together, and whether a sum is in 64 signed
-// bits. Assumes nothing.
+// What is asked of rows and terms in lent columns (01, "Numbers and tables"), by reader, normaliser, evaluator and
+// writer alike: how many there is room for, which terms a row of a kind has and whether they lie in their columns,
+// whether its variables are within the limit, and how large its weights are together. Assumes nothing.
 use definitions::COMMENT;
 use literals::Lit;
 ghost use mathlib.Core.Path.{_≡_};
 ghost use Prim.Native.Nat.{_+_, min};
 ghost use lib.Dec.{leb};
 ghost use lib.ListN.{length};
-ghost use lib.IntN.{natAbs, _+ℤ_};
-ghost use Rattle.definitions.specs.Limits.{inI64};
+ghost use lib.IntN.{natAbs};
 ghost use Rattle.columns.specs.Kinds.{termsOfKind, firstOfKind};
 ghost use Rattle.columns.specs.Sizes.{capped};
 ghost use Rattle.columns.specs.Parts.{codesIndexed, weightSizes};
 
 // The cap of specs/Sizes.antt: one more than M.
 const SIZE_CAP: u64 = 9_223_372_036_854_775_808;
-
-// "bound, weight: signed 64 bits"
-const LEAST: i64 = -9_223_372_036_854_775_808;
-
-const GREATEST: i64 = 9_223_372_036_854_775_807;
 
 pub fn lesser(a: usize, b: usize) -> usize
     ensures { λ r. ⌜ r ≡ min a b ⌝ }
@@ -104,14 +98,4 @@ pub fn sizes_of(weights: &[i64]) -> u64
         i += 1;
     }
     size
-}
-
-// Whether the sum of two numbers is no "result beyond signed 64 bits". A limit less y stays in 64 bits, which the sum may not.
-pub fn sum_fits(x: i64, y: i64) -> bool
-    ensures { λ r. ⌜ r ≡ inI64 (x +ℤ y) ⌝ }
-{
-    if y < 0 {
-        return x >= LEAST - y;
-    }
-    x <= GREATEST - y
 }

@@ -4,11 +4,12 @@ use mathlib.Core.Path.{_≡_, refl, sym, ap, _∙_}
 use mathlib.Core.List.{List}
 use native.Mathlib.Omega.{arith}
 use lib.ListN.{length, drop, length-drop}
+use Rattle.definitions.specs.Refusal.{Fault}
 use Rattle.definitions.specs.Reader.{Got, none, got, Reader, more, chain, done}
 use Rattle.definitions.proofs.Truths.{never}
 
 module _ {A B : Type 0} (p : Reader A) (k : A → Reader B) (s : List ℕ) where
-  pub chain-none : (e : ℕ) → p s ≡ none e → chain p k s ≡ none e
+  pub chain-none : (e : Fault) → p s ≡ none e → chain p k s ≡ none e
   unfolding chain
   chain-none e q = rw q
 

@@ -1,5 +1,5 @@
--- How do columns fill? Laws of `over`, one entry or one part at a time; of `filled`, line by line; and of `rowByRow`, for a walk
--- that has passed some rows.
+-- How do columns fill? Laws of `over`, one entry or one part at a time; of `filled`, line by line; and of `rowByRow`,
+-- for a walk that has passed some rows.
 use Prim.Native.Nat.{ℕ, suc, _+_, _-_, _≤_, _<_}
 use mathlib.Core.Path.{_≡_, refl, sym, ap, _∙_}
 use mathlib.Core.Bool.{Bool, true, false, cond}

@@ -1,5 +1,5 @@
--- How many lines and terms come back of items that are written? Of each item a line, one more for each offset, and the terms as
--- many as they are.
+-- How many lines and terms come back of items that are written? Of each item a line, one more for each offset, and the
+-- terms as many as they are.
 use Prim.Native.Nat.{ℕ, _+_}
 use mathlib.Core.Path.{_≡_, refl, ap, _∙_}
 use mathlib.Core.Bool.{Bool, true, false, cond}

@@ -1,4 +1,5 @@
--- Is each statement of the document one line, and which bytes may it have? So two equal texts of lines have the same lines.
+-- Is each statement of the document one line, and which bytes may it have? So two equal texts of lines have the same
+-- lines.
 use Prim.Native.Nat.{ℕ, zero, suc, _+_, _<_}
 use mathlib.Core.Path.{_≡_, refl, sym, ap, _∙_}
 use mathlib.Core.List.{List, [], _∷_, _++_, append-assoc, head-eq-of-cons-eq, tail-eq-of-cons-eq}

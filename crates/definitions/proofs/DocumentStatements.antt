@@ -1,4 +1,5 @@
--- Are the document's statements, one after the other, read as it means them? Which lines does a file of the document have?
+-- Are the document's statements, one after the other, read as it means them? Which lines does a file of the document
+-- have?
 use Prim.Native.Nat.{ℕ, zero, suc, _+_, _-_, _≤_}
 use mathlib.Core.Path.{_≡_, refl, sym, ap, _∙_}
 use mathlib.Core.Bool.{Bool, true, false, cond, not}
@@ -105,12 +106,12 @@ module _ (most : ℕ) where
     abbrev ts : List D.WeightedTerm
     ts = D.termsOf (c .sum)
 
-    ends : Reads ending (D.spaces (c .behind) ++ D.ended) rest 0
+    ends : Reads ending (D.spaces (c .behind) ++ D.ended) rest true
     unfolding blanks
     ends = reads-ending (D.spaces (c .behind)) rest (spaces-blanks (c .behind) (D.ended ++ rest) refl)
 
     reads-document-comparison : Reads comparison (comparisonText c) rest
-        (comparisonOf (operatorFor (c .relation)) (D.integerValue (c .bound)))
+        (comparisonOf (operatorFor (c .relation)) (D.integerValue (c .bound)) true)
     reads-document-comparison =
         let n = D.integerText (c .bound) in
         let e = D.spaces (c .behind) ++ D.ended in

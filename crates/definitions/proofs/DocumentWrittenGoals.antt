@@ -1,5 +1,5 @@
--- Has the document the line that is written for an objective? No: before the `;` the document has a space, and the line a digit, or
--- the `:` where it has no terms.
+-- Has the document the line that is written for an objective? No: before the `;` the document has a space, and the line
+-- a digit, or the `:` where it has no terms.
 use Prim.Native.Nat.{ℕ, zero, suc, _+_, _/_, _%_, _≤_, _<_}
 use mathlib.Core.Path.{_≡_, refl, sym, ap, _∙_}
 use mathlib.Core.Bool.{Bool, true, false, cond}

@@ -1,6 +1,6 @@
--- Is a written text with an objective in it ever the text of a file of the document? No: each written comment, constraint and
--- objective is one line, as each statement of the document is, so the two go line by line, and no line of the document is that of a
--- written objective.
+-- Is a written text with an objective in it ever the text of a file of the document? No: each written comment,
+-- constraint and objective is one line, as each statement of the document is, so the two go line by line, and no line
+-- of the document is that of a written objective.
 use Prim.Native.Nat.{ℕ, suc, _+_}
 use mathlib.Core.Path.{_≡_, refl, sym, ap, subst, _∙_}
 use mathlib.Core.Bool.{Bool, true, false, cond}

@@ -1,5 +1,5 @@
--- Are the lines that are written for the document its statements? Constraints, comments and the line of an offset are, word for
--- word; an objective's line lacks one space.
+-- Are the lines that are written for the document its statements? Constraints, comments and the line of an offset are,
+-- word for word; an objective's line lacks one space.
 use Prim.Native.Nat.{ℕ, suc, _+_, _%_, _≤_}
 use mathlib.Core.Path.{_≡_, refl, sym, ap, ap₂, _∙_}
 use mathlib.Core.Bool.{Bool, true, false}

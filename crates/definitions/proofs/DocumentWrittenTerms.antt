@@ -1,5 +1,5 @@
--- Are numbers, terms and sums, as they are written from first index 1 in no-negated mode, texts of the document? Each is the text
--- of a tree with the same value.
+-- Are numbers, terms and sums, as they are written from first index 1 in no-negated mode, texts of the document? Each
+-- is the text of a tree with the same value.
 use Prim.Native.Nat.{ℕ, suc, _+_, _*_, _/_, _%_, _≤_, _<_}
 use mathlib.Core.Path.{_≡_, refl, sym, ap, ap₂, _∙_}
 use mathlib.Core.Bool.{Bool, false, cond}

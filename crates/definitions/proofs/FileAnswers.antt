@@ -1,4 +1,5 @@
--- What does an answer of `file` say of the statements in it? All of them were found, or one was refused, within the limit on the length.
+-- What does an answer of `file` say of the statements in it? All of them were found, or one was refused, within the
+-- limit on the length.
 use Prim.Native.Nat.{ℕ, _≤_, _<_}
 use mathlib.Core.Path.{_≡_, refl, _∙_, ap}
 use mathlib.Core.Bool.{Bool, true, false, cond}

@@ -1,5 +1,5 @@
--- Is what the theorems ask for needed? An example, or a law, for each hypothesis of `there-and-back`, `document-read` and
--- `written-document` shows what goes wrong without it.
+-- Is what the theorems ask for needed? An example, or a law, for each hypothesis of `there-and-back`, `document-read`
+-- and `written-document` shows what goes wrong without it.
 use Prim.Native.Nat.{ℕ, _+_, _-_, _<_}
 use Prim.Native.String as S
 use mathlib.Core.Path.{_≡_, refl, subst}
@@ -19,7 +19,7 @@ use Rattle.definitions.specs.Literal.{opposite, plain, index, fileNumber
 use Rattle.definitions.specs.Walk.{walk, all}
 use Rattle.definitions.specs.Row.{term, atLeast, rowOf, row, sizes}
 use Rattle.definitions.specs.Text.{gap, gap1, digits, variable, literal, afterWeight, weighted, beginsTerm, termStep, sum}
-use Rattle.definitions.specs.Text.{operator, closing, ending, comparison, sized, constraint, minWord, minBlanks, goal, remark}
+use Rattle.definitions.specs.Text.{operator, closing, ending, comparison, finished, constraint, minWord, minBlanks, goal, remark}
 use Rattle.definitions.specs.Text.{statementAt, statement}
 use Rattle.definitions.specs.Table.{table, refused, accepted, fitted, entriesOf, termsOn, indexed, sortOf, rowByRow}
 use Rattle.definitions.specs.File.{statements, file, reading}
@@ -60,8 +60,8 @@ withoutThem =
     -- "the tables have room": of rows, of terms
     ∷ reading-is 1 "1 x1 >= 1;\n1 x1 >= 1;\n1 x1 >= 1;\n" (refused (refusal 9 3))
     ∷ reading-is 1 "1 x1 1 x2 1 x3 >= 1;\n" (refused (refusal 10 3))
-    -- "with the same first index": what is written with first index 1 is another variable with first index 0, and refused with
-    -- first index 2
+    -- "with the same first index": what is written with first index 1 is another variable with first index 0, and
+    -- refused with first index 2
     ∷ writing-is true 1 1 (pos 1) (pos 1 ∷ []) (0 ∷ []) "1 x1 >= 1;\n"
     ∷ reading-is 1 "1 x1 >= 1;\n" (accepted (row (rowOf atLeast (pos 1) (term (pos 1) 0 ∷ [])) ∷ []))
     ∷ reading-is 0 "1 x1 >= 1;\n" (accepted (row (rowOf atLeast (pos 1) (term (pos 1) 2 ∷ [])) ∷ []))
@@ -71,7 +71,7 @@ withoutThem =
 pub without-them : map (λ (e : Example). answerTo (e .question)) withoutThem ≡ map (λ (e : Example). e .answer) withoutThem
 unfolding startsWith inI64 needed classOf isAt blanks lineEnding untilEnding chain done fail leading valueOn ended number decimalIn
     decimal opposite plain index fileNumber walk all sizes gap gap1 digits variable literal afterWeight weighted beginsTerm termStep
-    sum operator closing ending comparison sized constraint minWord minBlanks goal remark statementAt statement fitted entriesOf
+    sum operator closing ending comparison finished constraint minWord minBlanks goal remark statementAt statement fitted entriesOf
     termsOn indexed sortOf rowByRow statements file reading totalBy flipTerm flipped plainTerm fall unnegated printed numberText
     literalText termText spaced apart joined remarkText offsetText comparisonText rowText itemText weighs unitTerm itemIn numbered
     bounded rowAllowed writtenIn writing answerTo
@@ -93,7 +93,7 @@ pub beyond-refused : map (λ (f : D.File). file fromOne (D.fileText f)) beyond
 unfolding beyond one-constraint on number-of D.spaces D.integerText D.termText D.constraintText D.commentText D.statementText
     D.headerOf D.statementsOf D.fileText joined startsWith inI64 classOf isAt blanks lineEnding untilEnding chain done fail leading
     valueOn ended number index walk all sizes gap gap1 digits variable literal afterWeight weighted beginsTerm termStep sum operator
-    closing ending comparison sized constraint remark statementAt statement statements file
+    closing ending comparison finished constraint remark statementAt statement statements file
 beyond-refused = refl
 
 pub beyond-good : AllOf D.WellFormed beyond
@@ -109,9 +109,9 @@ beyond-good = (
   ),
 )
 
--- within the limits, and not well formed: the variable x0, a comment with an LF, a digit that is none. (Where the order or the
--- counts are not the document's, a file is still read, since 01's text rules are wider: such a file is no file of the document,
--- below.)
+-- within the limits, and not well formed: the variable x0, a comment with an LF, a digit that is none. (Where the order
+-- or the counts are not the document's, a file is still read, since 01's text rules are wider: such a file is no file
+-- of the document, below.)
 pub malformed : List D.File
 malformed =
     one-constraint [] (on (number-of 1 "") 0 "") [] (number-of 0 "")
@@ -124,7 +124,7 @@ pub malformed-refused : map (λ (f : D.File). file fromOne (D.fileText f)) malfo
 unfolding malformed one-constraint on number-of D.spaces D.integerText D.termText D.constraintText D.commentText D.statementText
     D.headerOf D.statementsOf D.fileText joined startsWith inI64 classOf isAt blanks lineEnding untilEnding chain done fail leading
     valueOn ended number index walk all sizes gap gap1 digits variable literal afterWeight weighted beginsTerm termStep sum operator
-    closing ending comparison sized constraint remark statementAt statement statements file
+    closing ending comparison finished constraint remark statementAt statement statements file
 malformed-refused = refl
 
 pub malformed-within : AllOf WithinLimits malformed

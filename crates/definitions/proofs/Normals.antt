@@ -1,5 +1,5 @@
--- What has a normal row? No weight below 0, the variables and the sizes of the weights as they were, and nothing left for
--- normalising to change.
+-- What has a normal row? No weight below 0, the variables and the sizes of the weights as they were, and nothing left
+-- for normalising to change.
 use Prim.Native.Nat.{ℕ, _+_}
 use mathlib.Core.Path.{_≡_, refl, ap, ap₂, _∙_}
 use mathlib.Core.Bool.{Bool, true, false, cond, _&&_}

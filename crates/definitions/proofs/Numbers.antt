@@ -1,5 +1,5 @@
--- What do numbers in text say? The digits at the front and their value, the sizes that 64 signed bits hold, what `number` answers,
--- the digits of a number, and that what is printed reads back.
+-- What do numbers in text say? The digits at the front and their value, the sizes that 64 signed bits hold, what
+-- `number` answers, the digits of a number, and that what is printed reads back.
 use mathlib.Core.Path.{_≡_, refl, sym, _∙_}
 use mathlib.Core.Bool.{Bool, true, false, cond}
 use mathlib.Core.List.{List, [], _∷_, _++_, append-assoc, append-nil}
@@ -15,6 +15,7 @@ use lib.IntN.{ℤ, pos, negsuc, natAbs}
 use lib.Signed.{ltZ}
 use mir.Syntax.{w64}
 use mir.Val.{SFits}
+use Rattle.definitions.specs.Refusal.{Fault, fault}
 use Rattle.definitions.specs.Limits.{inI64}
 use Rattle.definitions.specs.Bytes.{isDigit, plus, minus}
 use Rattle.definitions.specs.Reader.{Got, none, got}
@@ -86,7 +87,7 @@ size-fits z f = omega (arith, abs-is z, one-side z, in-up z f, in-dn z f)
 
 -- ---- what `number` answers
 
-pub number-empty : (s : List ℕ) → length s ≡ 0 → number s ≡ none 3
+pub number-empty : (s : List ℕ) → length s ≡ 0 → number s ≡ none (fault 3)
 unfolding number
 number-empty [] e = refl
 number-empty (b ∷ s) e = absurd (omega arith)
@@ -107,13 +108,14 @@ unfolding number
 number-unsigned [] h e f = absurd (omega arith)
 number-unsigned (b ∷ s) h e f = rw (ne-eqb b minus e, ne-eqb b plus f)
 
-pub ended-none : (negative : Bool) (k : ℕ) (ds : List ℕ) → length ds ≡ 0 → ended negative k ds ≡ none 3
+pub ended-none : (negative : Bool) (k : ℕ) (ds : List ℕ) → length ds ≡ 0 → ended negative k ds ≡ none (fault 3)
 unfolding ended
 ended-none negative k ds e = rw e
 
-pub ended-beyond : (negative : Bool) (k : ℕ) (ds : List ℕ) → inI64 (signed negative (value ds)) ≡ false → ended negative k ds ≡ none 3
+pub ended-beyond : (negative : Bool) (k : ℕ) (ds : List ℕ) → inI64 (signed negative (value ds)) ≡ false
+    → ended negative k ds ≡ none (fault 3)
 unfolding ended
-ended-beyond negative k ds e = rw e (cond-same (eqb (length ds) 0) (none 3))
+ended-beyond negative k ds e = rw e (cond-same (eqb (length ds) 0) (none (fault 3)))
 
 pub ended-got : (negative : Bool) (k : ℕ) (ds : List ℕ) → (length ds ≡ 0 → ⊥) → inI64 (signed negative (value ds)) ≡ true
     → ended negative k ds ≡ got (signed negative (value ds)) (k + length ds)
@@ -122,18 +124,18 @@ ended-got negative k ds n e = rw (ne-eqb (length ds) 0 n, e)
 
 -- what holds of refusal 3, and of each number of 64 bits that takes some of the bytes, holds of the answer
 module _ {ℓ} (P : Got ℤ → Type ℓ) where
-  ended-is : (negative : Bool) (k : ℕ) (ds : List ℕ) → P (none 3)
+  ended-is : (negative : Bool) (k : ℕ) (ds : List ℕ) → P (none (fault 3))
       → ((z : ℤ) (n : ℕ) → k < n → n ≤ k + length ds → inI64 z ≡ true → P (got z n)) → P (ended negative k ds)
   unfolding ended
   ended-is negative k ds refused read = cases (eqb (length ds) 0) (inI64 (signed negative (value ds))) (eqb-false (length ds) 0) (λ e. e)
     where
       cases : (a b : Bool) → (a ≡ false → length ds ≡ 0 → ⊥) → (b ≡ true → inI64 (signed negative (value ds)) ≡ true)
-          → P (cond a (none 3) (cond b (got (signed negative (value ds)) (k + length ds)) (none 3)))
+          → P (cond a (none (fault 3)) (cond b (got (signed negative (value ds)) (k + length ds)) (none (fault 3))))
       cases true b f g = refused
       cases false true f g = let some : length ds ≡ 0 → ⊥ = f refl in read _ _ (omega (arith, some)) (omega arith) (g refl)
       cases false false f g = refused
 
-  pub number-is : (s : List ℕ) → P (none 3) → ((z : ℤ) (n : ℕ) → 0 < n → n ≤ length s → inI64 z ≡ true → P (got z n)) → P (number s)
+  pub number-is : (s : List ℕ) → P (none (fault 3)) → ((z : ℤ) (n : ℕ) → 0 < n → n ≤ length s → inI64 z ≡ true → P (got z n)) → P (number s)
   unfolding number
   number-is [] refused read = refused
   number-is (b ∷ s) refused read = cases (eqb b minus) (eqb b plus)
@@ -147,7 +149,7 @@ module _ {ℓ} (P : Got ℤ → Type ℓ) where
       cases false true = at false 1 s (omega arith)
       cases false false = at false 0 (b ∷ s) (omega arith)
 
-none-is-no-got {ℓ} : {X : Type ℓ} {A : Type 0} {e : ℕ} {a : A} {n : ℕ} → none e ≡ got a n → X
+none-is-no-got {ℓ} : {X : Type ℓ} {A : Type 0} {e : Fault} {a : A} {n : ℕ} → none e ≡ got a n → X
 none-is-no-got p = never cc
 
 pub number-within : (s : List ℕ) {z : ℤ} {n : ℕ} → number s ≡ got z n → (0 < n) × (n ≤ length s)

@@ -1,7 +1,8 @@
--- Is every file of the OPB document read as it means it? Every file of the document's own linear grammar that is within 01's
--- limits is accepted, read from first index 1. Its statements come back one for one, in order: comment for comment, and each
--- constraint and objective means what the document says, for every assignment of its variables. (specs/Document.antt has the
--- document's grammar and meaning, specs/DocumentRead.antt the words for how it is read, proofs/DocumentSample.antt one such file.)
+-- Is every file of the OPB document read as it means it? Every file of the document's own linear grammar that is within
+-- 01's limits is accepted, read from first index 1. Its statements come back one for one, in order: comment for
+-- comment, and each constraint and objective means what the document says, for every assignment of its variables.
+-- (specs/Document.antt has the document's grammar and meaning, specs/DocumentRead.antt the words for how it is read,
+-- proofs/DocumentSample.antt one such file.)
 use mathlib.Core.Path.{_≡_, ap}
 use mathlib.Core.List.{List}
 use borrow.Author.Tests.{le-leb}

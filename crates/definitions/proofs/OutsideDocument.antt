@@ -1,4 +1,5 @@
--- Which texts does no file of the document have? One that is refused, one with a `~` in a constraint, an objective without terms.
+-- Which texts does no file of the document have? One that is refused, one with a `~` in a constraint, an objective
+-- without terms.
 use Prim.Native.Nat.{ℕ, zero, suc, _≤_}
 use mathlib.Core.Path.{_≡_, refl, sym, ap, subst, _∙_}
 use mathlib.Core.List.{List, [], _∷_, _++_, map, append-assoc, append-cancel-right, head-eq-of-cons-eq}

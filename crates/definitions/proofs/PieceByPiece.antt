@@ -1,4 +1,5 @@
--- Does a walk leave a byte out? Whatever it finds, the text is the pieces that its step took, and a rest where it stopped.
+-- Does a walk leave a byte out? Whatever it finds, the text is the pieces that its step took, and a rest where it
+-- stopped.
 use Prim.Native.Nat.{ℕ, zero, suc, _+_, _<_}
 use mathlib.Core.Path.{_≡_, refl, sym, ap, _∙_}
 use mathlib.Core.List.{List, [], _∷_, _++_, append-assoc}
@@ -6,7 +7,7 @@ use native.Mathlib.Omega.{arith}
 use lib.ListN.{length, take, drop, length-append, length-drop, take-append-drop}
 use lib.Seq.{length-take-le}
 use Rattle.definitions.specs.Lists.{joined}
-use Rattle.definitions.specs.Refusal.{Refusal, refusal}
+use Rattle.definitions.specs.Refusal.{Refusal, further}
 use Rattle.definitions.specs.Walk.{Step, stop, bad, item, Walked, broken, items, before, walk, all}
 use Rattle.definitions.specs.Pieces.{together, Pieces, none, next}
 use Rattle.definitions.proofs.Truths.{never}
@@ -16,7 +17,7 @@ module _ {A : Type 0} (step : List ℕ → Step A) (place : ℕ → A → A) (mo
   -- how a walk ends: no item, or a refusal
   pub data Ended (rest : List ℕ) (e : ℕ) (l : List A) : Walked A → Type 0 where
     stopped : step rest ≡ stop → Ended rest e l (items l e)
-    refused : {n k : ℕ} → step rest ≡ bad n k → Ended rest e l (broken (refusal n (e + k)))
+    refused : {r : Refusal} → step rest ≡ bad r → Ended rest e l (broken (further e r))
 
   -- from what was found to how it ended
   pub ended-items : {rest : List ℕ} {e : ℕ} {l : List A} {w : Walked A} (ls : List A) (n : ℕ) → Ended rest e l w → w ≡ items ls n
@@ -25,15 +26,13 @@ module _ {A : Type 0} (step : List ℕ → Step A) (place : ℕ → A → A) (mo
   ended-items ls n (refused p) q = never cc
 
   pub record Refused (rest : List ℕ) (e : ℕ) (r : Refusal) : Type 0 where
-    pub behind : ℕ
-    pub answer : step rest ≡ bad (r .number) behind
-    pub spot : r .place ≡ e + behind
+    pub behind : Refusal
+    pub answer : step rest ≡ bad behind
+    pub whole : further e behind ≡ r
 
   pub ended-broken : {rest : List ℕ} {e : ℕ} {l : List A} {w : Walked A} (r : Refusal) → Ended rest e l w → w ≡ broken r → Refused rest e r
   ended-broken r (stopped p) q = never cc
-  ended-broken {rest} {e} r (refused {n} {k} p) q =
-      let z : refusal n (e + k) ≡ r = cc in
-      rw (← z) (record { behind = k; answer = p; spot = refl })
+  ended-broken r (refused {r = b} p) q = record { behind = b; answer = p; whole = cc }
 
   pub record Through (at : ℕ) (s : List ℕ) (w : Walked A) : Type 0 where
     pub pieces : List (List ℕ)
@@ -81,7 +80,7 @@ module _ {A : Type 0} (step : List ℕ → Step A) (place : ℕ → A → A) (mo
           → ((n : ℕ) → length (drop n s) < fuel → Through (at + n) (drop n s) (walk step place (drop n s) 0 (at + n)))
           → Through at s (walk step place s 0 at)
       by stop e ih = rw (walk-stop step place moves at s e) (through-none at s (items [] at) (stopped e))
-      by (bad n k) e ih = rw (walk-bad step place moves at s n k e) (through-none at s (broken (refusal n (at + k))) (refused e))
+      by (bad r) e ih = rw (walk-bad step place moves at s r e) (through-none at s (broken (further at r)) (refused e))
       by (item a n) e ih =
           rw (walk-item step place moves at s a n e)
           (through-next at s a n (walk step place (drop n s) 0 (at + n)) e

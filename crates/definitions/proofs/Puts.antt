@@ -1,6 +1,6 @@
--- What is left in an output that texts are put into, and what is known after some rows of a table? What the two walks of a writer
--- of lines go by. A text is put behind another, byte by byte or whole; a needed length is added up; the first rows of a table are
--- checked, and the rest are left.
+-- What is left in an output that texts are put into, and what is known after some rows of a table? What the two walks
+-- of a writer of lines go by. A text is put behind another, byte by byte or whole; a needed length is added up; the
+-- first rows of a table are checked, and the rest are left.
 use mathlib.Core.Path.{_≡_, refl, sym, ap, _∙_}
 use mathlib.Core.List.{List, [], _∷_, _++_, append-assoc}
 use Prim.Native.Nat.{ℕ, zero, suc, _+_, _*_, _/_, _^_, _≤_, _<_}

@@ -1,5 +1,5 @@
--- What is known of rows that were read? Each weight is within 64 bits, each index and its file number within their limits,
--- absolute weights are at most M, and the bound is within 64 bits.
+-- What is known of rows that were read? Each weight is within 64 bits, each index and its file number within their
+-- limits, absolute weights are at most M, and the bound is within 64 bits.
 use Prim.Native.Nat.{ℕ, _+_, _-_, _≤_}
 use mathlib.Core.Path.{_≡_, refl, sym, ap, _∙_}
 use mathlib.Core.Bool.{Bool, true, false, _&&_, _||_}
@@ -13,7 +13,7 @@ use mir.Syntax.{w64}
 use mir.Val.{SFits}
 use Rattle.definitions.specs.Lists.{AllOf}
 use Rattle.definitions.specs.Limits.{weightLimit, indexLimit, fileNumberLimit, inI64}
-use Rattle.definitions.specs.Refusal.{Checked, refuse, accept}
+use Rattle.definitions.specs.Refusal.{Checked, refuse, accept, fault, faultOf}
 use Rattle.definitions.specs.Bytes.{blanks, begins, classOf, letterX, tilde, minus}
 use Rattle.definitions.specs.Reader.{Got, none, got, Reader, more, chain, done, fail}
 use Rattle.definitions.specs.Number.{leading, value, number}
@@ -22,7 +22,7 @@ use Rattle.definitions.specs.Walk.{stop, item, Walked, broken, items, al
 use Rattle.definitions.specs.Row.{Term, term, Kind, Row, rowOf, Line, comment, row, sizes}
 use Rattle.definitions.specs.Table.{indexed}
 use Rattle.definitions.specs.Text.{gap, gap1, codeBy, digits, variable, literal, afterWeight, weighted, termStep, asGot, sum}
-use Rattle.definitions.specs.Text.{comparison, sized, constraint, ending, minBlanks, goal, remark, asLine, statementBy}
+use Rattle.definitions.specs.Text.{comparison, finished, constraint, ending, minBlanks, goal, remark, asLine, statementBy}
 use Rattle.definitions.specs.Text.{afterBlanks, statementAt, statement, inFile}
 use Rattle.definitions.specs.File.{statements}
 use Rattle.definitions.specs.Write.{numbered}
@@ -89,7 +89,7 @@ module _ (o : Options) where
   limited-digits : (negative : Bool) (s : List ℕ) → Limited (o .first) (digits o negative s)
   unfolding digits Limited
   limited-digits negative s =
-      cond-holds (eqb (length (leading s)) 0) (none 4) (codeBy negative (length (leading s)) (index (o .first) (value (leading s))))
+      cond-holds (eqb (length (leading s)) 0) (none (fault 4)) (codeBy negative (length (leading s)) (index (o .first) (value (leading s))))
       (Limited (o .first)) tt
       (limited-code (o .first) negative (length (leading s)) (index (o .first) (value (leading s)))
       (index-limited (o .first) (value (leading s))))
@@ -98,7 +98,7 @@ module _ (o : Options) where
   unfolding variable Limited
   limited-variable negative [] = tt
   limited-variable negative (b ∷ s) =
-      cond-holds (eqb b letterX) (more 1 (digits o negative s)) (none 4) (Limited (o .first))
+      cond-holds (eqb b letterX) (more 1 (digits o negative s)) (none (fault 4)) (Limited (o .first))
       (limited-more (o .first) (digits o negative s) (limited-digits negative s)) tt
 
   limited-literal : (s : List ℕ) → Limited (o .first) (literal o s)
@@ -130,7 +130,7 @@ module _ (o : Options) where
   sum-good s ts n e = by (all (termStep o) anywhere s) refl
     where
       by : (w : Walked Term) → all (termStep o) anywhere s ≡ w → AllOf (GoodTerm (o .first)) ts
-      by (broken r) q = let c : none (r .number) ≡ got ts n = ap asGot (sym q) ∙ e in never cc
+      by (broken r) q = let c : none (faultOf r) ≡ got ts n = ap asGot (sym q) ∙ e in never cc
       by (items xs m) q =
           let c : got xs m ≡ got ts n = ap asGot (sym q) ∙ e in
           let x : xs ≡ ts = cc in
@@ -138,10 +138,10 @@ module _ (o : Options) where
           (λ s' t k at i. weighted-good s' t k (term-step-item o s' t k i)) s xs m q .1)
 
   -- ---- rows
-  sized-good : (k : Kind) (b : ℤ) (ts : List Term) (s : List ℕ) (r : Row) (n : ℕ) → AllOf (GoodTerm (o .first)) ts
-      → sized k b ts s ≡ got r n → GoodRow (o .first) r
-  unfolding sized
-  sized-good k b ts s r n g e = by (leb (sizes ts) weightLimit && inI64 b) refl
+  finished-good : (c : Bool) (k : Kind) (b : ℤ) (ts : List Term) (s : List ℕ) (r : Row) (n : ℕ) → AllOf (GoodTerm (o .first)) ts
+      → finished o c k b ts s ≡ got r n → GoodRow (o .first) r
+  unfolding finished
+  finished-good c k b ts s r n g e = by (leb (sizes ts) weightLimit && inI64 b) refl
     where
       by : (x : Bool) → (leb (sizes ts) weightLimit && inI64 b) ≡ x → GoodRow (o .first) r
       by true q =
@@ -149,14 +149,14 @@ module _ (o : Options) where
           let same : rowOf k b ts ≡ r = cc in
           let h = both (leb (sizes ts) weightLimit) (inI64 b) q in
           rw (← same) (record { each = g; total = leb-true (sizes ts) weightLimit (h .0); fits = true-in b (h .1) })
-      by false q = let c : none 8 ≡ got r n = sym (rw q) ∙ e in never cc
+      by false q = let c : none (fault 8) ≡ got r n = sym (rw q) ∙ e in never cc
 
   constraint-good : (s : List ℕ) (r : Row) (n : ℕ) → constraint o s ≡ got r n → GoodRow (o .first) r
   unfolding constraint
   constraint-good s r n e =
       let l = chain-linked (sum o) _ s r n e in
       let m = chain-linked comparison _ (drop (l .taken) s) r (l .behind) (l .there) in
-      sized-good _ _ (l .given) _ r (m .behind) (sum-good s (l .given) (l .taken) (l .here)) (m .there)
+      finished-good _ _ _ (l .given) _ r (m .behind) (sum-good s (l .given) (l .taken) (l .here)) (m .there)
 
   goal-good : (s : List ℕ) (r : Row) (n : ℕ) → goal o s ≡ got r n → GoodRow (o .first) r
   unfolding goal
@@ -164,7 +164,7 @@ module _ (o : Options) where
       let i = chain-linked minBlanks _ s r n e in
       let l = chain-linked (sum o) _ (drop (i .taken) s) r (i .behind) (i .there) in
       let m = chain-linked ending _ (drop (l .taken) (drop (i .taken) s)) r (l .behind) (l .there) in
-      sized-good _ _ (l .given) _ r (m .behind) (sum-good _ (l .given) (l .taken) (l .here)) (m .there)
+      finished-good _ _ _ (l .given) _ r (m .behind) (sum-good _ (l .given) (l .taken) (l .here)) (m .there)
 
   -- ---- statements
   line-good : (p : Reader Row) (s : List ℕ) (l : Line) (n : ℕ) → ((r : Row) (m : ℕ) → p s ≡ got r m → GoodRow (o .first) r)

@@ -193,9 +193,9 @@ unfolding operator isAt
 reads-equal rest = record { reads = refl }
 
 -- blanks, `;` and a line ending
-pub reads-ending : (b rest : List ℕ) → blanks (b ++ (closed ++ rest)) ≡ length b → Reads ending (b ++ closed) rest 0
+pub reads-ending : (b rest : List ℕ) → blanks (b ++ (closed ++ rest)) ≡ length b → Reads ending (b ++ closed) rest true
 unfolding ending
 reads-ending b rest e = reads-chain _ b closed (reads-gap b (closed ++ rest) e) closes
   where
-    closes : Reads closing closed rest 0
+    closes : Reads closing closed rest true
     closes = unfold closing lineEnding blanks in record { reads = refl }

@@ -1,5 +1,5 @@
--- Has every refusal one of 01's numbers, 1 to 15 ("What each number says"), or of 02's, 20 to 22 (A1)? Reading, normalising,
--- evaluating, value lines, writing, listing, from the smallest step up.
+-- Has every refusal one of 01's numbers, 1 to 15 ("What each number says"), or of 02's, 20 to 22 (A1)? Reading,
+-- normalising, evaluating, value lines, writing, listing, from the smallest step up.
 use Prim.Native.Nat.{ℕ, zero, suc, pred, _+_, min}
 use mathlib.Core.Path.{_≡_, refl, _∙_}
 use mathlib.Core.Bool.{Bool, true, false, cond, _&&_, _||_}
@@ -9,7 +9,7 @@ use lib.IntN.{ℤ}
 use lib.ListN.{length, take, drop}
 use Rattle.definitions.specs.Lists.{joined}
 use Rattle.definitions.specs.Limits.{wordLimit}
-use Rattle.definitions.specs.Refusal.{refusal, Checked, refuse, accept}
+use Rattle.definitions.specs.Refusal.{refusal, Checked, refuse, accept, fault, further}
 use Rattle.definitions.specs.Reader.{Got, none, got, Reader, more, thenAt, chain, done, fail}
 use Rattle.definitions.specs.Number.{ended, number}
 use Rattle.definitions.specs.Literal.{codeOf, index}
@@ -47,12 +47,12 @@ inChecked (refuse n) = isNumber n
 inChecked (accept a) = true
 
 unfoldable pub inGot : {A : Type 0} → Got A → Bool
-inGot (none n) = isNumber n
+inGot (none e) = isNumber (e .number)
 inGot (got a k) = true
 
 unfoldable pub inStep : {A : Type 0} → Step A → Bool
 inStep stop = true
-inStep (bad n k) = isNumber n
+inStep (bad r) = isNumber (r .number)
 inStep (item a k) = true
 
 unfoldable pub inWalked : {A : Type 0} → Walked A → Bool
@@ -113,11 +113,11 @@ module _ {A : Type 0} (step : List ℕ → Step A) (place : ℕ → A → A) (ea
       by : (x : Step A) → inStep x ≡ true → ((n : ℕ) → inWalked (walk step place s n (at + 1)) ≡ true)
           → inWalked {A = A} (elim x [
             | stop ↦ items [] at
-            | bad n k ↦ broken (refusal n (at + k))
+            | bad r ↦ broken (further at r)
             | item a n ↦ before (place at a) (walk step place s (pred n) (at + 1))
           ]) ≡ true
       by stop h rest = refl
-      by (bad n k) h rest = h
+      by (bad r) h rest = h
       by (item a n) h rest = before-in (place at a) (walk step place s (pred n) (at + 1)) ∙ rest (pred n)
 
   all-in : (s : List ℕ) → inWalked (all step place s) ≡ true
@@ -214,7 +214,7 @@ unfolding text.closing inGot
 closing-in [] = refl
 closing-in (b ∷ s) = simp (got-cond, by (lineEnding (b ∷ s)), cond-same)
   where
-    by : (n : ℕ) → inGot {A = ℕ} (elim n [ zero ↦ none 7 | suc k ↦ got 0 (suc k) ]) ≡ true
+    by : (n : ℕ) → inGot {A = Bool} (elim n [ zero ↦ none (fault 7) | suc k ↦ got false (suc k) ]) ≡ true
     by zero = refl
     by (suc k) = refl
 
@@ -229,9 +229,9 @@ comparison-in =
 
 -- ---- statements, a file
 
-sized-in : (k : Kind) (b : ℤ) (ts : List Term) (s : List ℕ) → inGot (text.sized k b ts s) ≡ true
-unfolding text.sized inGot
-sized-in k b ts s = simp (got-cond, cond-same)
+finished-in : (o : Options) (c : Bool) (k : Kind) (b : ℤ) (ts : List Term) (s : List ℕ) → inGot (text.finished o c k b ts s) ≡ true
+unfolding text.finished inGot
+finished-in o c k b ts s = simp (got-cond, cond-same)
 
 min-in : (s : List ℕ) → inGot (text.minWord s) ≡ true
 unfolding text.minWord inGot
@@ -247,18 +247,18 @@ remark-in [] = refl
 remark-in (b ∷ s) = refl
 
 -- 2
-fail-in : (s : List ℕ) → inGot {A = Line} (fail 2 s) ≡ true
+fail-in : (s : List ℕ) → inGot {A = Line} (fail (fault 2) s) ≡ true
 unfolding fail inGot
 fail-in s = refl
 
 module _ (o : Options) where
   constraint-in : (s : List ℕ) → inGot (text.constraint o s) ≡ true
   unfolding text.constraint
-  constraint-in = chain-in _ _ (sum-in o) (λ _. chain-in _ _ comparison-in (λ _. sized-in _ _ _))
+  constraint-in = chain-in _ _ (sum-in o) (λ _. chain-in _ _ comparison-in (λ _. finished-in o _ _ _ _))
 
   goal-in : (s : List ℕ) → inGot (text.goal o s) ≡ true
   unfolding text.goal
-  goal-in = chain-in _ _ min-blanks-in (λ _. chain-in _ _ (sum-in o) (λ _. chain-in _ _ ending-in (λ _. sized-in _ _ _)))
+  goal-in = chain-in _ _ min-blanks-in (λ _. chain-in _ _ (sum-in o) (λ _. chain-in _ _ ending-in (λ _. finished-in o _ _ _ _)))
 
   begun-in : (b : Beginning) (s : List ℕ) → inGot (text.statementBy b o s) ≡ true
   begun-in Comment = remark-in

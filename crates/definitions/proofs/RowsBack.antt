@@ -1,8 +1,8 @@
--- Is a row's text read as the row? Sums, comparisons, constraints and objectives, whatever stands behind them; first for any text
--- that the grammar allows, then as they are written.
+-- Is a row's text read as the row? Sums, comparisons, constraints and objectives, whatever stands behind them; first
+-- for any text that the grammar allows, then as they are written.
 use Prim.Native.Nat.{ℕ, _+_, _≤_}
 use mathlib.Core.Path.{_≡_, refl, ap}
-use mathlib.Core.Bool.{true, false}
+use mathlib.Core.Bool.{Bool, true, false}
 use mathlib.Core.List.{List, [], _∷_, _++_, map, append-assoc, append-nil}
 use native.Mathlib.Omega.{arith}
 use borrow.Author.Tests.{le-leb}
@@ -17,7 +17,7 @@ use Rattle.definitions.specs.Number.{leading, number, integerText}
 use Rattle.definitions.specs.Walk.{anywhere}
 use Rattle.definitions.specs.Row.{Term, Kind, objective, rowOf, sizes}
 use Rattle.definitions.specs.Text.{gap, weighted, beginsTerm, asStep, termStep, asGot, sum, operator, ending, comparisonOf}
-use Rattle.definitions.specs.Text.{comparison, kindOf, boundOf, sized, constraint, minWord, minBlanks, goal}
+use Rattle.definitions.specs.Text.{comparison, kindOf, boundOf, finished, constraint, minWord, minBlanks, goal}
 use Rattle.definitions.specs.Write.{termText, spaced, apart, closed, comparisonText}
 use Rattle.definitions.specs.declared.Options.{Options}
 use Rattle.definitions.specs.declared.OpbOperator.{OpbOperator}
@@ -70,17 +70,17 @@ module _ (o : Options) where
 -- ---- rows
 
 -- an operator, blanks, a number, an ending
-pub reads-comparison : (x g n e : List ℕ) {rest : List ℕ} {p : OpbOperator} {b : ℤ} {k j : ℕ}
+pub reads-comparison : (x g n e : List ℕ) {rest : List ℕ} {p : OpbOperator} {b : ℤ} {k : ℕ} {c : Bool}
     → Reads operator x ((g ++ (n ++ e)) ++ rest) p → Reads gap g ((n ++ e) ++ rest) k → Reads number n (e ++ rest) b
-    → Reads ending e rest j → Reads comparison (x ++ (g ++ (n ++ e))) rest (comparisonOf p b)
+    → Reads ending e rest c → Reads comparison (x ++ (g ++ (n ++ e))) rest (comparisonOf p b c)
 unfolding comparison
 reads-comparison x g n e {rest} u v w z =
     reads-chain _ x (g ++ (n ++ e)) u (reads-chain _ g (n ++ e) v (reads-chain _ n e w (reads-end _ e z (reads-done _ rest))))
 
-reads-sized : (k : Kind) (b : ℤ) (ts : List Term) (rest : List ℕ) → sizes ts ≤ weightLimit → SFits w64 b
-    → Reads (sized k b ts) [] rest (rowOf k b ts)
-unfolding sized
-reads-sized k b ts rest h f = record { reads = rw (le-leb (sizes ts) weightLimit h, in-true b f) }
+reads-finished : (o : Options) (c : Bool) (k : Kind) (b : ℤ) (ts : List Term) (rest : List ℕ) → sizes ts ≤ weightLimit → SFits w64 b
+    → Reads (finished o c k b ts) [] rest (rowOf k b ts)
+unfolding finished
+reads-finished o c k b ts rest h f = record { reads = rw (le-leb (sizes ts) weightLimit h, in-true b f) }
 
 -- `min:`, blanks
 reads-min : (g rest : List ℕ) → blanks (g ++ rest) ≡ length g → Reads minBlanks (minText ++ g) rest (length g)
@@ -88,20 +88,20 @@ unfolding minBlanks minWord startsWith
 reads-min g rest e = reads-chain _ minText g (record { reads = refl }) (reads-gap g rest e)
 
 module _ (o : Options) where
-  pub reads-constraint : (x y : List ℕ) {rest : List ℕ} {ts : List Term} {p : OpbOperator} {b : ℤ} → Reads (sum o) x (y ++ rest) ts
-      → Reads comparison y rest (comparisonOf p b)
+  pub reads-constraint : (x y : List ℕ) {rest : List ℕ} {ts : List Term} {p : OpbOperator} {b : ℤ} {c : Bool}
+      → Reads (sum o) x (y ++ rest) ts → Reads comparison y rest (comparisonOf p b c)
       → sizes ts ≤ weightLimit → SFits w64 (boundOf p b) → Reads (constraint o) (x ++ y) rest (rowOf (kindOf p) (boundOf p b) ts)
   unfolding constraint
-  reads-constraint x y {rest} {ts} {p} {b} u v h f =
-      reads-chain _ x y u (reads-end _ y v (reads-sized (kindOf p) (boundOf p b) ts rest h f))
+  reads-constraint x y {rest} {ts} {p} {b} {c} u v h f =
+      reads-chain _ x y u (reads-end _ y v (reads-finished o c (kindOf p) (boundOf p b) ts rest h f))
 
-  pub reads-goal : (g x e : List ℕ) {rest : List ℕ} {ts : List Term} {j : ℕ} → blanks (g ++ ((x ++ e) ++ rest)) ≡ length g
-      → Reads (sum o) x (e ++ rest) ts → Reads ending e rest j
+  pub reads-goal : (g x e : List ℕ) {rest : List ℕ} {ts : List Term} {c : Bool} → blanks (g ++ ((x ++ e) ++ rest)) ≡ length g
+      → Reads (sum o) x (e ++ rest) ts → Reads ending e rest c
       → sizes ts ≤ weightLimit → Reads (goal o) ((minText ++ g) ++ (x ++ e)) rest (rowOf objective (pos 0) ts)
   unfolding goal
-  reads-goal g x e {rest} {ts} q u v h =
+  reads-goal g x e {rest} {ts} {c} q u v h =
       reads-chain _ (minText ++ g) (x ++ e) (reads-min g ((x ++ e) ++ rest) q)
-      (reads-chain _ x e u (reads-end _ e v (reads-sized objective (pos 0) ts rest h (record { sfits = omega arith }))))
+      (reads-chain _ x e u (reads-end _ e v (reads-finished o c objective (pos 0) ts rest h (record { sfits = omega arith }))))
 
 -- ---- as they are written
 

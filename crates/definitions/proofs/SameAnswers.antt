@@ -1,6 +1,6 @@
--- Has stepping the same answers as reading the file at once? The lines, one for one, with their terms and places, or the first
--- refusal of 1 to 8, with its place. And stepping comes to an end: a statement takes the offset forward, never past the file's end;
--- at the end and at a refusal it stays, and the same is said again.
+-- Has stepping the same answers as reading the file at once? The lines, one for one, with their terms and places, or
+-- the first refusal of 1 to 8, with its place. And stepping comes to an end: a statement takes the offset forward,
+-- never past the file's end; at the end and at a refusal it stays, and the same is said again.
 use Prim.Native.Nat.{ℕ, _≤_, _<_}
 use mathlib.Core.Path.{_≡_, ap, _∙_}
 use mathlib.Core.List.{List}

@@ -1,5 +1,5 @@
--- How many bytes does each reader of Text.antt take? No more than there are, and a statement or a term at least one. A statement
--- has no more terms than bytes.
+-- How many bytes does each reader of Text.antt take? No more than there are, and a statement or a term at least one. A
+-- statement has no more terms than bytes.
 use Prim.Native.Nat.{ℕ, zero, suc, _+_, _-_, _≤_, _<_}
 use mathlib.Core.Path.{_≡_, refl, sym, ap, _∙_}
 use mathlib.Core.Bool.{Bool, true, false, cond, _&&_, _||_}
@@ -8,7 +8,7 @@ use native.Mathlib.Omega.{arith}
 use lib.Dec.{leb, eqb}
 use lib.ListN.{length, drop, length-drop}
 use lib.IntN.{ℤ, pos}
-use Rattle.definitions.specs.Refusal.{Checked, refuse, accept}
+use Rattle.definitions.specs.Refusal.{Checked, refuse, accept, fault, faultOf}
 use Rattle.definitions.specs.Bytes.{minText, isAt, blanks, lineEnding, untilEnding, begins, classOf, minus, semicolon, less}
 use Rattle.definitions.specs.Bytes.{equals, greater, letterX, tilde}
 use Rattle.definitions.specs.Reader.{Got, none, got, Reader, more, chain, done, fail}
@@ -20,7 +20,7 @@ use Rattle.definitions.specs.Limits.{weightLimit, inI64}
 use Rattle.definitions.specs.Row.{Term, Kind, Row, rowOf, Line, comment, row, termsOf, sizes}
 use Rattle.definitions.specs.Text.{gap, someBlanks, gap1, codeBy, digits, variable, literal, afterWeight, weighted}
 use Rattle.definitions.specs.Text.{beginsTerm, asStep, termStep, asGot, sum, operator, closing, ending, Comparison}
-use Rattle.definitions.specs.Text.{comparison, sized, constraint, minWord, minBlanks, goal, remark, asLine, statementBy}
+use Rattle.definitions.specs.Text.{comparison, finished, constraint, minWord, minBlanks, goal, remark, asLine, statementBy}
 use Rattle.definitions.specs.Text.{afterBlanks, statementAt, statement, spaceAfter}
 use Rattle.definitions.specs.declared.Options.{Options}
 use Rattle.definitions.specs.declared.Beginning.{Beginning}
@@ -62,7 +62,7 @@ module _ (o : Options) where
   most-digits : (negative : Bool) (s : List ℕ) → Most s (digits o negative s)
   unfolding digits
   most-digits negative s =
-      cond-holds (eqb (length (leading s)) 0) (none 4) (codeBy negative (length (leading s)) (index (o .first) (value (leading s))))
+      cond-holds (eqb (length (leading s)) 0) (none (fault 4)) (codeBy negative (length (leading s)) (index (o .first) (value (leading s))))
       (Most s) tt
       (by (index (o .first) (value (leading s))))
     where
@@ -74,7 +74,7 @@ module _ (o : Options) where
   unfolding variable
   most-variable negative [] = tt
   most-variable negative (b ∷ s) =
-      cond-holds (eqb b letterX) (more 1 (digits o negative s)) (none 4) (Most (b ∷ s))
+      cond-holds (eqb b letterX) (more 1 (digits o negative s)) (none (fault 4)) (Most (b ∷ s))
       (most-more b s (digits o negative s) (most-digits negative s)) tt
 
   most-literal : (s : List ℕ) → Most s (literal o s)
@@ -134,7 +134,7 @@ module _ (o : Options) where
   sum-within s ts n e = by (all (termStep o) anywhere s) refl
     where
       by : (w : Walked Term) → all (termStep o) anywhere s ≡ w → (n ≤ length s) × (length ts ≤ n)
-      by (broken r) q = let c : none (r .number) ≡ got ts n = ap asGot (sym q) ∙ e in never cc
+      by (broken r) q = let c : none (faultOf r) ≡ got ts n = ap asGot (sym q) ∙ e in never cc
       by (items xs m) q =
           let c : got xs m ≡ got ts n = ap asGot (sym q) ∙ e in
           let x : xs ≡ ts = cc in
@@ -175,7 +175,7 @@ least-operator (b ∷ s) =
 
 least-min-word : (s : List ℕ) → Least (minWord s)
 unfolding minWord
-least-min-word s = cond-holds (startsWith minText s) (got 0 (length minText)) (none 2) Least (omega arith) tt
+least-min-word s = cond-holds (startsWith minText s) (got 0 (length minText)) (none (fault 2)) Least (omega arith) tt
 
 pub within-operator : Within operator
 within-operator = most-within operator most-operator
@@ -188,7 +188,7 @@ most-closing (b ∷ s) =
     (omega (arith, blanks-within s, ending-within (drop (blanks s) s), length-drop (blanks s) s))
     (by (lineEnding (b ∷ s)) (ending-within (b ∷ s)))
   where
-    by : (k : ℕ) → k ≤ length (b ∷ s) → Most {A = ℕ} (b ∷ s) (elim k [ zero ↦ none 7 | suc j ↦ got 0 (suc j) ])
+    by : (k : ℕ) → k ≤ length (b ∷ s) → Most {A = Bool} (b ∷ s) (elim k [ zero ↦ none (fault 7) | suc j ↦ got false (suc j) ])
     by zero h = tt
     by (suc k) h = h
 
@@ -207,13 +207,14 @@ within-comparison =
     (λ _. within-chain number _ within-number (λ b. within-chain ending _ within-ending (λ _. within-done _))))
 
 -- ---- rows
-pub sized-got : (k : Kind) (b : ℤ) (ts : List Term) (s : List ℕ) (r : Row) (n : ℕ) → sized k b ts s ≡ got r n → (r ≡ rowOf k b ts) × (n ≡ 0)
-unfolding sized
-sized-got k b ts s r n e = by (leb (sizes ts) weightLimit && inI64 b) refl
+pub finished-got : (o : Options) (c : Bool) (k : Kind) (b : ℤ) (ts : List Term) (s : List ℕ) (r : Row) (n : ℕ)
+    → finished o c k b ts s ≡ got r n → (r ≡ rowOf k b ts) × (n ≡ 0)
+unfolding finished
+finished-got o c k b ts s r n e = by (leb (sizes ts) weightLimit && inI64 b) refl
   where
     by : (x : Bool) → (leb (sizes ts) weightLimit && inI64 b) ≡ x → (r ≡ rowOf k b ts) × (n ≡ 0)
     by true q = let c : got (rowOf k b ts) 0 ≡ got r n = sym (rw q) ∙ e in (cc, cc)
-    by false q = let c : none 8 ≡ got r n = sym (rw q) ∙ e in never cc
+    by false q = let c : none (fault 8) ≡ got r n = sym (rw q) ∙ e in never cc
 
 starts-within : (w s : List ℕ) → startsWith w s ≡ true → length w ≤ length s
 unfolding startsWith
@@ -229,7 +230,7 @@ most-min-word : (s : List ℕ) → Most s (minWord s)
 unfolding minWord
 most-min-word s = by (startsWith minText s) refl
   where
-    by : (x : Bool) → startsWith minText s ≡ x → Most {A = ℕ} s (cond (startsWith minText s) (got 0 (length minText)) (none 2))
+    by : (x : Bool) → startsWith minText s ≡ x → Most {A = ℕ} s (cond (startsWith minText s) (got 0 (length minText)) (none (fault 2)))
     by true q = rw q (starts-within minText s q)
     by false q = rw q tt
 
@@ -263,7 +264,7 @@ module _ (o : Options) (s : List ℕ) (r : Row) (n : ℕ) where
   constraint-taken e =
       let l = chain-linked (sum o) _ s r n e in
       let m = chain-linked comparison _ (drop (l .taken) s) r (l .behind) (l .there) in
-      let z = sized-got _ _ (l .given) (drop (m .taken) (drop (l .taken) s)) r (m .behind) (m .there) in
+      let z = finished-got o _ _ _ (l .given) (drop (m .taken) (drop (l .taken) s)) r (m .behind) (m .there) in
       let w = sum-within o s (l .given) (l .taken) (l .here) in
       let c = within-comparison .most (drop (l .taken) s) (m .given) (m .taken) (m .here) in
       record {
@@ -278,7 +279,7 @@ module _ (o : Options) (s : List ℕ) (r : Row) (n : ℕ) where
       let i = chain-linked minBlanks _ s r n e in
       let l = chain-linked (sum o) _ (drop (i .taken) s) r (i .behind) (i .there) in
       let m = chain-linked ending _ (drop (l .taken) (drop (i .taken) s)) r (l .behind) (l .there) in
-      let z = sized-got _ _ (l .given) (drop (m .taken) (drop (l .taken) (drop (i .taken) s))) r (m .behind) (m .there) in
+      let z = finished-got o _ _ _ (l .given) (drop (m .taken) (drop (l .taken) (drop (i .taken) s))) r (m .behind) (m .there) in
       let w = sum-within o (drop (i .taken) s) (l .given) (l .taken) (l .here) in
       let c = within-ending .most (drop (l .taken) (drop (i .taken) s)) (m .given) (m .taken) (m .here) in
       let b = within-min-blanks .most s (i .given) (i .taken) (i .here) in

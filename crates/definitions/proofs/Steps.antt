@@ -1,5 +1,5 @@
--- How does stepping go through a file? As the walk of the whole file does, and a line that is handed out takes the offset forward
--- within the file.
+-- How does stepping go through a file? As the walk of the whole file does, and a line that is handed out takes the
+-- offset forward within the file.
 use Prim.Native.Nat.{ℕ, zero, suc, _+_, _≤_, _<_}
 use mathlib.Core.Path.{_≡_, refl, sym, ap, _∙_}
 use mathlib.Core.Bool.{Bool, true, false, cond}
@@ -45,9 +45,9 @@ module _ (o : Options) (s : List ℕ) where
         by stop e ih =
             rw (step-short at ∙ ap (steppedBy at) e, stepsIn)
             (ap linesOf (sym (walk-stop (statement o) inFile (statement-moves o) at (drop at s) e)))
-        by (bad m k) e ih =
+        by (bad r) e ih =
             rw (step-short at ∙ ap (steppedBy at) e, stepsIn)
-            (ap linesOf (sym (walk-bad (statement o) inFile (statement-moves o) at (drop at s) m k e)))
+            (ap linesOf (sym (walk-bad (statement o) inFile (statement-moves o) at (drop at s) r e)))
         by (item l m) e ih =
             let shorter : length (drop (at + m) s) < n =
             omega (
@@ -93,7 +93,7 @@ module _ (o : Options) (s : List ℕ) where
           → (at < next) × (next ≤ length s)
       by false x p q = never cc
       by true stop p q = never cc
-      by true (bad n k) p q = never cc
+      by true (bad r) p q = never cc
       by true (item x n) p q =
           let m : at + n ≡ next = cc in
           let f = statement-moves o .least (drop at s) x n p in

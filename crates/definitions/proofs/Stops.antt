@@ -1,11 +1,12 @@
 -- Where does `statement` find nothing, or refuse? Behind the blanks: at the end of the text, or before it.
 use Prim.Native.Nat.{ℕ, _<_}
-use mathlib.Core.Path.{_≡_, refl}
+use mathlib.Core.Path.{_≡_, refl, sym, ap}
 use mathlib.Core.Bool.{Bool, true, false}
 use mathlib.Core.List.{List, [], _∷_, _++_}
 use native.Mathlib.Omega.{arith}
 use lib.ListN.{length, take, drop, length-drop, take-append-drop}
 use lib.Seq.{take-all, length-take-le}
+use Rattle.definitions.specs.Refusal.{Refusal, faultAt}
 use Rattle.definitions.specs.Lists.{AllOf}
 use Rattle.definitions.specs.Bytes.{isBlank, blanks, begins, classOf}
 use Rattle.definitions.specs.Reader.{Got, none, got}
@@ -31,10 +32,10 @@ after-is-no-stop k (none e) q = never cc
 after-is-no-stop k (got (comment f n b) m) q = never cc
 after-is-no-stop k (got (row r) m) q = never cc
 
-after-is-bad : (k : ℕ) (g : Got Line) (n j : ℕ) → afterBlanks k g ≡ bad n j → j ≡ k
-after-is-bad k (none e) n j q = cc
-after-is-bad k (got (comment f i b) m) n j q = never cc
-after-is-bad k (got (row r) m) n j q = never cc
+after-is-bad : (k : ℕ) (g : Got Line) (r : Refusal) → afterBlanks k g ≡ bad r → r .place ≡ k
+after-is-bad k (none e) r q = let p : faultAt k e ≡ r = cc in sym (ap (λ (x : Refusal). x .place) p)
+after-is-bad k (got (comment f i b) m) r q = never cc
+after-is-bad k (got (row x) m) r q = never cc
 
 module _ (o : Options) where
   nothing-left : (k : ℕ) (s : List ℕ) → statementAt o k s ≡ stop → length s ≡ 0
@@ -42,10 +43,10 @@ module _ (o : Options) where
   nothing-left k [] e = refl
   nothing-left k (b ∷ s) e = absurd (after-is-no-stop k (statementBy (begins (classOf b)) o (b ∷ s)) e)
 
-  something-left : (k : ℕ) (s : List ℕ) (n j : ℕ) → statementAt o k s ≡ bad n j → (0 < length s) × (j ≡ k)
+  something-left : (k : ℕ) (s : List ℕ) (r : Refusal) → statementAt o k s ≡ bad r → (0 < length s) × (r .place ≡ k)
   unfolding statementAt
-  something-left k [] n j e = never cc
-  something-left k (b ∷ s) n j e = (omega arith, after-is-bad k (statementBy (begins (classOf b)) o (b ∷ s)) n j e)
+  something-left k [] r e = never cc
+  something-left k (b ∷ s) r e = (omega arith, after-is-bad k (statementBy (begins (classOf b)) o (b ∷ s)) r e)
 
   -- where nothing is found, there are blanks alone
   pub stop-is-blank : (s : List ℕ) → statement o s ≡ stop → AllOf Blank s
@@ -55,10 +56,10 @@ module _ (o : Options) where
       rw (take-all (blanks s) s (omega (arith, length-drop (blanks s) s))) at (all-blank s)
 
   -- a refusal is behind the blanks, and some text is left there
-  pub bad-is-behind : (s : List ℕ) (n k : ℕ) → statement o s ≡ bad n k → (k ≡ blanks s) × (blanks s < length s)
+  pub bad-is-behind : (s : List ℕ) (r : Refusal) → statement o s ≡ bad r → (r .place ≡ blanks s) × (blanks s < length s)
   unfolding statement
-  bad-is-behind s n k e =
-      let h = something-left (blanks s) (drop (blanks s) s) n k e in
+  bad-is-behind s r e =
+      let h = something-left (blanks s) (drop (blanks s) s) r e in
       (h .1, omega (arith, h .0, length-drop (blanks s) s))
 
   -- the text there: blanks, and what is refused behind them
@@ -70,9 +71,9 @@ module _ (o : Options) where
     pub size : length gap ≡ k
     pub short : k < length s
 
-  pub bad-parted : (s : List ℕ) (n k : ℕ) → statement o s ≡ bad n k → Parted s k
-  bad-parted s n k e =
-      let b = bad-is-behind s n k e in
+  pub bad-parted : (s : List ℕ) (r : Refusal) → statement o s ≡ bad r → Parted s (r .place)
+  bad-parted s r e =
+      let b = bad-is-behind s r e in
       record {
         gap = take (blanks s) s;
         behind = drop (blanks s) s;

@@ -11,7 +11,7 @@ use Rattle.definitions.specs.Literal.{opposite, plain, index, fileNumber
 use Rattle.definitions.specs.Walk.{walk, all}
 use Rattle.definitions.specs.Row.{sizes}
 use Rattle.definitions.specs.Text.{gap, gap1, digits, variable, literal, afterWeight, weighted, beginsTerm, termStep, sum}
-use Rattle.definitions.specs.Text.{operator, closing, ending, comparison, sized, constraint, minWord, minBlanks, goal, remark}
+use Rattle.definitions.specs.Text.{operator, closing, ending, comparison, finished, constraint, minWord, minBlanks, goal, remark}
 use Rattle.definitions.specs.Text.{statementAt, statement}
 use Rattle.definitions.specs.Table.{fitted, entriesOf, termsOn, indexed, sortOf, rowByRow}
 use Rattle.definitions.specs.File.{statements, file, reading}
@@ -25,7 +25,7 @@ use Rattle.definitions.specs.TableP.{Example, answerTo, tableP}
 pub every-example : map (λ (e : Example). answerTo (e .question)) tableP ≡ map (λ (e : Example). e .answer) tableP
 unfolding startsWith inI64 needed classOf isAt blanks lineEnding untilEnding chain done fail leading valueOn ended number decimalIn
     decimal opposite plain index fileNumber walk all sizes gap gap1 digits variable literal afterWeight weighted beginsTerm termStep
-    sum operator closing ending comparison sized constraint minWord minBlanks goal remark statementAt statement fitted entriesOf
+    sum operator closing ending comparison finished constraint minWord minBlanks goal remark statementAt statement fitted entriesOf
     termsOn indexed sortOf rowByRow statements file reading totalBy flipTerm flipped plainTerm fall unnegated printed numberText
     literalText termText spaced apart joined remarkText offsetText comparisonText rowText itemText weighs unitTerm itemIn numbered
     bounded rowAllowed writtenIn writing answerTo

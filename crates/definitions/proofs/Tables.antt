@@ -1,5 +1,5 @@
--- Does a table hold the lines that were filled into it? Its rows, taken as the normaliser, the evaluator and the writer take them,
--- are the lines again.
+-- Does a table hold the lines that were filled into it? Its rows, taken as the normaliser, the evaluator and the writer
+-- take them, are the lines again.
 use Prim.Native.Nat.{ℕ, _+_, _≤_}
 use mathlib.Core.Path.{_≡_, refl, sym, ap, _∙_}
 use mathlib.Core.Bool.{true}

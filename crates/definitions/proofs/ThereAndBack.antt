@@ -1,9 +1,9 @@
--- Do rows come back that are written and read again? Take any table whose rows the writer accepts, in either literal mode. If the
--- written file is within the length limit and the tables have room, reading it with the same first index succeeds; constraints and
--- objectives come back one for one, in order; for every assignment each constraint holds exactly when the original held, and each
--- objective's value plus the offset printed for it (zero where none is) equals the original value with its own offset. All sums
--- are exact whole numbers. (An assignment gives every variable a value, so each covers the rows' variables. specs/Back.antt has
--- the words.)
+-- Do rows come back that are written and read again? Take any table whose rows the writer accepts, in either literal
+-- mode. If the written file is within the length limit and the tables have room, reading it with the same first index
+-- succeeds; constraints and objectives come back one for one, in order; for every assignment each constraint holds
+-- exactly when the original held, and each objective's value plus the offset printed for it (zero where none is) equals
+-- the original value with its own offset. All sums are exact whole numbers. (An assignment gives every variable a
+-- value, so each covers the rows' variables. specs/Back.antt has the words.)
 use Prim.Native.Nat.{ℕ, _≤_}
 use mathlib.Core.Path.{_≡_, ap, _∙_}
 use mathlib.Core.List.{List}

@@ -1,5 +1,5 @@
--- What follows from tests? Two that are passed are each passed, none is both passed and not, and what a test picks has what both
--- sides have.
+-- What follows from tests? Two that are passed are each passed, none is both passed and not, and what a test picks has
+-- what both sides have.
 use Prim.Native.Nat.{ℕ}
 use mathlib.Core.Path.{_≡_, refl, sym, _∙_}
 use mathlib.Core.Bool.{Bool, true, false, cond, _&&_, _||_, false≢true}

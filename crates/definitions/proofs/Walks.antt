@@ -5,7 +5,7 @@ use mathlib.Core.List.{List, [], _∷_, _++_, append-assoc, append-nil}
 use native.Mathlib.Omega.{arith}
 use lib.ListN.{length, drop, length-drop}
 use lib.Seq.{drop-drop}
-use Rattle.definitions.specs.Refusal.{refusal}
+use Rattle.definitions.specs.Refusal.{Refusal, further}
 use Rattle.definitions.specs.Lists.{total, AllOf}
 use Rattle.definitions.specs.Walk.{Step, stop, bad, item, Walked, broken, items, before, walk, all}
 use Rattle.definitions.proofs.Truths.{never}
@@ -38,7 +38,7 @@ module _ {A : Type 0} (step : List ℕ → Step A) (place : ℕ → A → A) whe
   walk-passed (b ∷ s) (suc k) at h = walk-passed s k (at + 1) (omega arith) ∙ ap (walk step place (drop k s) 0) (omega arith)
 
   module _ (moves : Moves step) (at : ℕ) where
-    no-refusal-of-nothing : {n k : ℕ} → step [] ≡ bad n k → ⊥
+    no-refusal-of-nothing : {r : Refusal} → step [] ≡ bad r → ⊥
     no-refusal-of-nothing e = let q = moves .none in never cc
 
     pub walk-stop : (s : List ℕ) → step s ≡ stop → walk step place s 0 at ≡ items [] at
@@ -46,10 +46,10 @@ module _ {A : Type 0} (step : List ℕ → Step A) (place : ℕ → A → A) whe
     walk-stop [] e = refl
     walk-stop (b ∷ s) e = rw (e, walk)
 
-    pub walk-bad : (s : List ℕ) (n k : ℕ) → step s ≡ bad n k → walk step place s 0 at ≡ broken (refusal n (at + k))
+    pub walk-bad : (s : List ℕ) (r : Refusal) → step s ≡ bad r → walk step place s 0 at ≡ broken (further at r)
     unfolding walk
-    walk-bad [] n k e = absurd (no-refusal-of-nothing e)
-    walk-bad (b ∷ s) n k e = rw (e, walk)
+    walk-bad [] r e = absurd (no-refusal-of-nothing e)
+    walk-bad (b ∷ s) r e = rw (e, walk)
 
     pub walk-item : (s : List ℕ) (a : A) (n : ℕ) → step s ≡ item a n
         → walk step place s 0 at ≡ before (place at a) (walk step place (drop n s) 0 (at + n))
@@ -74,8 +74,8 @@ module _ {A : Type 0} (step : List ℕ → Step A) (place : ℕ → A → A) whe
     pub at-stop : step (drop at s) ≡ stop → all step place s ≡ items pre at
     at-stop e = w .split ∙ ap (onto pre) (walk-stop moves at (drop at s) e) ∙ ap (λ (l : List A). items l at) (append-nil pre)
 
-    pub at-bad : (n k : ℕ) → step (drop at s) ≡ bad n k → all step place s ≡ broken (refusal n (at + k))
-    at-bad n k e = w .split ∙ ap (onto pre) (walk-bad moves at (drop at s) n k e)
+    pub at-bad : (r : Refusal) → step (drop at s) ≡ bad r → all step place s ≡ broken (further at r)
+    at-bad r e = w .split ∙ ap (onto pre) (walk-bad moves at (drop at s) r e)
 
     pub at-item : (a : A) (n : ℕ) → step (drop at s) ≡ item a n → At s (at + n) (pre ++ (place at a ∷ []))
     at-item a n e =
@@ -114,7 +114,7 @@ module _ {A : Type 0} (step : List ℕ → Step A) (place : ℕ → A → A) (P 
       cases : (x : Step A) → step (b ∷ s) ≡ x → ((k : ℕ) → Ended P (at + 1) (at + 1 + length s) (walk step place s k (at + 1)))
           → Ended P at (at + length (b ∷ s)) (walk step place (b ∷ s) zero at)
       cases stop e ih = rw (e, walk) (omega arith, omega arith, tt)
-      cases (bad n k) e ih = rw (e, walk) tt
+      cases (bad r) e ih = rw (e, walk) tt
       cases (item a n) e ih =
           rw (e, walk)
           (ended-before P at (at + length (b ∷ s)) (place at a) (walk step place s (pred n) (at + 1)) (each (b ∷ s) a n at e)
@@ -150,7 +150,7 @@ module _ {A : Type 0} (step : List ℕ → Step A) (place : ℕ → A → A) (mo
       cases : (x : Step A) → step (b ∷ s) ≡ x → ((k : ℕ) → k ≤ length s → Summed g (at + 1 + k) (walk step place s k (at + 1)))
           → Summed g (at + 0) (walk step place (b ∷ s) zero at)
       cases stop e ih = rw (e, walk) (omega arith)
-      cases (bad n k) e ih = rw (e, walk) tt
+      cases (bad r) e ih = rw (e, walk) tt
       cases (item a zero) e ih = absurd (omega (arith, moves .least (b ∷ s) a zero e))
       cases (item a (suc n)) e ih =
           let q : at + 1 + n ≡ at + 0 + suc n = omega arith in

@@ -1,5 +1,5 @@
--- How does `omega` take whole numbers? z is `up z` less `dn z`, one of which is 0. Each law turns a fact on ℤ into one on ℕ that
--- is linear in these.
+-- How does `omega` take whole numbers? z is `up z` less `dn z`, one of which is 0. Each law turns a fact on ℤ into one
+-- on ℕ that is linear in these.
 use mathlib.Core.Path.{_≡_, refl, sym, ap, _∙_}
 use mathlib.Core.Bool.{true, false}
 use Prim.Native.Nat.{ℕ, zero, suc, _+_, _-_, _*_, _≤_, _<_, _^_, min}

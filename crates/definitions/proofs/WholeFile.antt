@@ -1,8 +1,8 @@
--- Is the whole file read? An accepted file is its statements, one piece for each line, and blanks behind them; a refused one is
--- broken at a place that lies in it, and all before that place is whole statements and blanks. So no byte is left out.
--- (specs/Pieces.antt has the words.)
+-- Is the whole file read? An accepted file is its statements, one piece for each line, and blanks behind them; a
+-- refused one is broken at a place that lies in it, and all before that place is whole statements and blanks. So no
+-- byte is left out. (specs/Pieces.antt has the words.)
 use Prim.Native.Nat.{ℕ, _+_, _≤_, _<_}
-use mathlib.Core.Path.{_≡_, ap}
+use mathlib.Core.Path.{_≡_, refl, sym, ap, _∙_}
 use mathlib.Core.Logic.{_⊎_, inl, inr, ⊎-elim}
 use mathlib.Core.List.{List, _++_}
 use native.Mathlib.Omega.{arith}
@@ -47,7 +47,7 @@ pub record BrokenFile (o : Options) (s : List ℕ) (r : Refusal) : Type 0 where
   pub place : r .place ≡ length (together pieces ++ gap)
   pub within : r .place < length s
   -- there `statement` answers the number
-  pub answer : statement o (gap ++ rest) ≡ bad (r .number) (length gap)
+  pub answer : statement o (gap ++ rest) ≡ bad (refusal (r .number) (length gap))
 
 -- statements that are found up to the end of the file leave no byte out
 pub accepted-is-whole : (o : Options) (s : List ℕ) (ls : List Line) (n : ℕ) → statements o s ≡ items ls n → WholeFile o s ls
@@ -63,13 +63,18 @@ accepted-is-whole o s ls n e =
       blank = stop-is-blank o (t .rest) (q .2);
     }
 
+named : {n k : ℕ} (b : Refusal) → b .number ≡ n → b .place ≡ k → b ≡ refusal n k
+named b e p = rw (e, p)
+
 -- a statement that is refused stands behind whole statements
 pub refused-is-broken : (o : Options) (s : List ℕ) (r : Refusal) → statements o s ≡ broken r → BrokenFile o s r
 unfolding statements
 refused-is-broken o s r e =
     let t = all-through (statement o) inFile (statement-moves o) s in
     let q = ended-broken (statement o) inFile (statement-moves o) r (t .ended) e in
-    let b = bad-parted o (t .rest) (r .number) (q .behind) (q .answer) in
+    let b = bad-parted o (t .rest) (q .behind) (q .answer) in
+    let number : q .behind .number ≡ r .number = ap (λ (x : Refusal). x .number) (q .whole) in
+    let spot : 0 + length (together (t .pieces)) + q .behind .place ≡ r .place = ap (λ (x : Refusal). x .place) (q .whole) in
     record {
       pieces = t .pieces;
       lines = t .found;
@@ -78,9 +83,9 @@ refused-is-broken o s r e =
       whole = rw (b .seam) (t .whole);
       each = rw (b .seam) (t .each);
       blank = b .blank;
-      place = omega (arith, q .spot, b .size, length-append (together (t .pieces)) (b .gap));
-      within = omega (arith, q .spot, b .short, ap length (t .whole), length-append (together (t .pieces)) (t .rest));
-      answer = rw (b .seam, b .size) (q .answer);
+      place = omega (arith, spot, b .size, length-append (together (t .pieces)) (b .gap));
+      within = omega (arith, spot, b .short, ap length (t .whole), length-append (together (t .pieces)) (t .rest));
+      answer = ap (statement o) (b .seam) ∙ q .answer ∙ ap bad (named (q .behind) number (sym (b .size)));
     }
 
 -- ---- the same of `file`, which has the limit on the length (1)

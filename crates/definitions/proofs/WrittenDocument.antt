@@ -1,10 +1,11 @@
--- Does what is written lie in the OPB document? Take rows that the writer accepts, with first index 1 in no-negated mode, in the
--- document's order: its header comment, comments, at most one objective, comments and constraints. Without an objective, what is
--- written is a file of the document's own linear grammar. With one it lacks a single space: the document asks for a space before
--- the `;` of an objective, and the writer, as the Rust, prints none. Either way constraints and objective mean what was asked for,
--- for every assignment of the document's variables. (An objective without terms is left out: it is written `min:;`, and the
--- document's sums have one or more terms. specs/Document.antt has the document's grammar and meaning, specs/DocumentWritten.antt
--- the words for what is written, part by part, proofs/WrittenSample.antt one such table.)
+-- Does what is written lie in the OPB document? Take rows that the writer accepts, with first index 1 in no-negated
+-- mode, in the document's order: its header comment, comments, at most one objective, comments and constraints. Without
+-- an objective, what is written is a file of the document's own linear grammar. With one it lacks a single space: the
+-- document asks for a space before the `;` of an objective, and the writer, as the Rust, prints none. Either way
+-- constraints and objective mean what was asked for, for every assignment of the document's variables. (An objective
+-- without terms is left out: it is written `min:;`, and the document's sums have one or more terms. specs/Document.antt
+-- has the document's grammar and meaning, specs/DocumentWritten.antt the words for what is written, part by part,
+-- proofs/WrittenSample.antt one such table.)
 use Prim.Native.Nat.{ℕ}
 use mathlib.Core.Path.{_≡_, _∙_}
 use mathlib.Core.List.{List}
@@ -26,8 +27,8 @@ pub written-document : (t : Table) (text : List ℕ) (room : ℕ) (is : List Ite
 written-document t text room is s a e o =
     rw (asked-text forDocument t text is a room s e) (in-document o (asked-writable forDocument t text is a))
 
--- that space is always amiss: what is written with an objective in it, with or without terms, in any order and mode, is the text of
--- no file of the document
+-- that space is always amiss: what is written with an objective in it, with or without terms, in any order and mode, is
+-- the text of no file of the document
 pub objective-outside : (m : Mode) (t : Table) (text : List ℕ) (room : ℕ) (is : List Item) (s : List ℕ)
     → rowByRow (writtenIn m t text) 0 (entries t) ≡ accepted is
     → writing m t text room ≡ accepted s

@@ -1,4 +1,5 @@
--- Is there a table in the document's order? One, with what is written of it: what WrittenDocument.antt says is not empty.
+-- Is there a table in the document's order? One, with what is written of it: what WrittenDocument.antt says is not
+-- empty.
 use Prim.Native.Nat.{ℕ}
 use mathlib.Core.Path.{_≡_, refl}
 use mathlib.Core.List.{List, [], _∷_}

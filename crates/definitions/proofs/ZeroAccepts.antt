@@ -1,5 +1,5 @@
--- Is the number of an answer 0 exactly where the call accepted? For each call's definition, since no refusal has the number 0
--- (Refusals).
+-- Is the number of an answer 0 exactly where the call accepted? For each call's definition, since no refusal has the
+-- number 0 (Refusals).
 use Prim.Native.Nat.{ℕ}
 use mathlib.Core.Path.{_≡_, refl}
 use mathlib.Core.Bool.{true}

@@ -1,5 +1,5 @@
--- What does it say that rows come back, where a file is written and read again (01, "What the contracts owe", demand 3)? Words of
--- a theorem: proofs/ThereAndBack.antt has the statement.
+-- What does it say that rows come back, where a file is written and read again (01, "What the contracts owe", demand
+-- 3)? Words of a theorem: proofs/ThereAndBack.antt has the statement.
 use Prim.Native.Nat.{ℕ, _+_}
 use mathlib.Core.Path.{_≡_}
 use mathlib.Core.Bool.{Bool, true, false, cond}

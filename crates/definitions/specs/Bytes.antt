@@ -1,5 +1,5 @@
--- Which class has a byte (01, "The text")? "Every byte belongs to one class: digit, sign, space or tab, CR, LF, `;`, `*`, `~`,
--- `x`, `m`, operator byte, other." And how are blanks, line endings and texts said in bytes?
+-- Which class has a byte (01, "The text")? "Every byte belongs to one class: digit, sign, space or tab, CR, LF, `;`,
+-- `*`, `~`, `x`, `m`, operator byte, other." And how are blanks, line endings and texts said in bytes?
 use Prim.Native.Nat.{ℕ, zero, suc}
 use Prim.Native.Char.{code}
 use Prim.Native.String as S
@@ -94,7 +94,8 @@ classOf b =
     (cond (eqb b letterM) LetterM
     (cond (isOperator b) Operator Other))))))))))
 
--- "`*`: comment", "`min:` ...: objective", "digit, `+`, `-`: constraint"; "a statement starts with none of its beginnings": refusal 2
+-- "`*`: comment", "`min:` ...: objective", "digit, `+`, `-`: constraint"; "a statement starts with none of its
+-- beginnings": refusal 2
 abbrev pub begins : Class → Beginning
 begins Digit = Constraint
 begins Sign = Constraint

@@ -1,6 +1,6 @@
--- What are the public OPB document's own linear grammar and meaning, apart from Text.antt and Meaning.antt? A file of the grammar
--- is the text of a tree; what the trees below may hold beyond the grammar's sentences, `WellFormed` rules out. (The document:
--- cril.univ-artois.fr/PB12/format.pdf; docs/DECISIONS.md says what is known of it here.)
+-- What are the public OPB document's own linear grammar and meaning, apart from Text.antt and Meaning.antt? A file of
+-- the grammar is the text of a tree; what the trees below may hold beyond the grammar's sentences, `WellFormed` rules
+-- out. (The document: cril.univ-artois.fr/PB12/format.pdf; docs/DECISIONS.md says what is known of it here.)
 use Prim.Native.Nat.{ℕ, zero, suc, _+_, _*_, _≤_, _<_}
 use mathlib.Core.Path.{_≡_}
 use mathlib.Core.Bool.{Bool, true, false, _&&_}
@@ -149,8 +149,8 @@ statementText (constraint c) = constraintText c
 abbrev pub statementsText : List Statement → List ℕ
 statementsText xs = joined statementText xs
 
--- "The first line is a comment of the form `* #variable= N #constraint= M`: N is the number of variables, x1 to xN, and M the
--- number of constraints that follow." The numbers are written as integers without a sign.
+-- "The first line is a comment of the form `* #variable= N #constraint= M`: N is the number of variables, x1 to xN, and
+-- M the number of constraints that follow." The numbers are written as integers without a sign.
 pub record File : Type 0 where
   pub variables : Integer
   pub constraints : Integer

@@ -1,5 +1,5 @@
--- What does it say that a file of the OPB document is read as the document means it? The document numbers its variables from 1, so
--- the first index is 1. Words of a theorem: proofs/OpbDocument.antt has the statement.
+-- What does it say that a file of the OPB document is read as the document means it? The document numbers its variables
+-- from 1, so the first index is 1. Words of a theorem: proofs/OpbDocument.antt has the statement.
 use Prim.Native.Nat.{ℕ, _+_, _-_, _≤_}
 use mathlib.Core.Path.{_≡_}
 use mathlib.Core.Bool.{Bool, true, false, cond}

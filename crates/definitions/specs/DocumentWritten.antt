@@ -1,5 +1,5 @@
--- What does it say that a written file lies in the OPB document's grammar? The document numbers its variables from 1 and has no
--- negated literals, so a file is written for it with first index 1 in no-negated mode. Words of a theorem:
+-- What does it say that a written file lies in the OPB document's grammar? The document numbers its variables from 1
+-- and has no negated literals, so a file is written for it with first index 1 in no-negated mode. Words of a theorem:
 -- proofs/WrittenDocument.antt has the statement.
 use Prim.Native.Nat.{ℕ, _+_, _≤_}
 use mathlib.Core.Path.{_≡_}
@@ -31,7 +31,8 @@ constraintsAsked [] = []
 constraintsAsked (say t ∷ is) = constraintsAsked is
 constraintsAsked (line r ∷ is) = cond (isGoal (r .kind)) (constraintsAsked is) (r ∷ constraintsAsked is)
 
--- "The first line is a comment of the form `* #variable= N #constraint= M`": the text behind the `*` and the space that the writer prints
+-- "The first line is a comment of the form `* #variable= N #constraint= M`": the text behind the `*` and the space that
+-- the writer prints
 unfoldable pub headerSaid : ℕ → ℕ → List ℕ
 headerSaid n m = bytes "#variable= " ++ (decimal n ++ (bytes " #constraint= " ++ decimal m))
 
@@ -101,8 +102,8 @@ pub record WrittenDocument {is : List Item} (o : InOrder is) (s : List ℕ) : Ty
   pub good : D.WellFormed document
   -- without an objective its text is the written text
   pub same : o .objectives ≡ [] → D.fileText document ≡ s
-  -- with an objective the written text lacks one space, right before the `;` of the objective's line; before and behind that place
-  -- the two are the same
+  -- with an objective the written text lacks one space, right before the `;` of the objective's line; before and behind
+  -- that place the two are the same
   pub lacks : (r : Row) → o .objectives ≡ r ∷ []
       → (s ≡ beforeEnd o r ++ fromEnd o r) × (D.fileText document ≡ beforeEnd o r ++ (space ∷ fromEnd o r))
   -- one constraint of the document for each constraint asked for, in order, satisfied exactly where that holds

@@ -1,8 +1,8 @@
--- What does the evaluator answer for one row, under an assignment lent as words (01)? "The evaluator answers, for one row, the sum
--- and whether it holds; for an objective, the sum plus the bound column. Order 11 (comments and missing rows too), 8 for absolute
--- weights, 12, then 8 for an objective's value. It also reports the number of ones in the assignment's words. Words after the
--- first 16,777,216 are not looked at." And the same where variables may be unknown (02, A1): "Evaluating a row with an unknown
--- variable is refusal 12."
+-- What does the evaluator answer for one row, under an assignment lent as words (01)? "The evaluator answers, for one
+-- row, the sum and whether it holds; for an objective, the sum plus the bound column. Order 11 (comments and missing
+-- rows too), 8 for absolute weights, 12, then 8 for an objective's value. It also reports the number of ones in the
+-- assignment's words. Words after the first 16,777,216 are not looked at." And the same where variables may be unknown
+-- (02, A1): "Evaluating a row with an unknown variable is refusal 12."
 use Prim.Native.Nat.{ℕ, _*_}
 use mathlib.Core.Bool.{Bool, true, cond, _&&_}
 use mathlib.Core.List.{List, [], _∷_}

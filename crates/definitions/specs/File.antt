@@ -1,5 +1,5 @@
--- What is read of a whole file, into lent columns (01)? "Reader's order: 1; then statement by statement, left to right 2 to 7 as
--- the text is met; 8 after the ending of its statement; 9, then 10, once the whole file has read well."
+-- What is read of a whole file, into lent columns (01)? "Reader's order: 1; then statement by statement, left to right
+-- 2 to 7 as the text is met; 8 after the ending of its statement; 9, then 10, once the whole file has read well."
 use Prim.Native.Nat.{ℕ}
 use mathlib.Core.Bool.{cond}
 use mathlib.Core.List.{List}

@@ -1,5 +1,6 @@
--- Which lines does the listing program print (01, "Examples on each side")? "House lines are parted by tabs"; "The first line is
--- rows, terms, first index; `c` gives the text's length; equal is `eq`. A refusal prints `refused`, number, place alone."
+-- Which lines does the listing program print (01, "Examples on each side")? "House lines are parted by tabs"; "The
+-- first line is rows, terms, first index; `c` gives the text's length; equal is `eq`. A refusal prints `refused`,
+-- number, place alone."
 use Prim.Native.Nat.{ℕ}
 use mathlib.Core.Bool.{cond}
 use mathlib.Core.List.{List, [], _∷_, _++_}

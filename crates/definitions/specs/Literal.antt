@@ -1,5 +1,5 @@
--- What are file numbers, variable indexes and literal codes (01, "Numbers and tables")? "A variable index is the file number less
--- the first index (an option, any u32). A literal code is twice the index, plus 1 if negated."
+-- What are file numbers, variable indexes and literal codes (01, "Numbers and tables")? "A variable index is the file
+-- number less the first index (an option, any u32). A literal code is twice the index, plus 1 if negated."
 use Prim.Native.Nat.{ℕ, _+_, _-_, _*_, _/_, _%_}
 use mathlib.Core.Bool.{Bool, true, false, cond, _&&_}
 use lib.Dec.{leb, eqb}

@@ -1,5 +1,5 @@
--- What does a row say of an assignment? "Meaning of sums, 'at least' and 'equal' is the public OPB document's": variables take 0
--- or 1, `~x` is 1 - x, a sum is the sum of weight times value, as whole numbers.
+-- What does a row say of an assignment? "Meaning of sums, 'at least' and 'equal' is the public OPB document's":
+-- variables take 0 or 1, `~x` is 1 - x, a sum is the sum of weight times value, as whole numbers.
 use Prim.Native.Nat.{ℕ, zero, suc, _+_, _*_, _/_, _%_, _^_}
 use mathlib.Core.Bool.{Bool, true, cond, not, _&&_}
 use mathlib.Core.List.{List, [], _∷_}
@@ -47,7 +47,7 @@ trueBelow a (suc n) = trueBelow a n + cond (a n) 1 0
 unfoldable pub onesOf : List ℕ → ℕ
 onesOf ws = trueBelow (assigned ws) (64 * length ws)
 
--- "Variables may stay unknown, so a second row of words says which are known" (02, A1): ws are the values, ks the known words. A
--- variable beyond the shorter row is not known.
+-- "Variables may stay unknown, so a second row of words says which are known" (02, A1): ws are the values, ks the known
+-- words. A variable beyond the shorter row is not known.
 unfoldable pub isKnown : List ℕ → List ℕ → ℕ → Bool
 isKnown ws ks v = ltb v (64 * length ws) && assigned ks v

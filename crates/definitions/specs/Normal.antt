@@ -1,6 +1,6 @@
--- What is the normal form of a row (01)? "Normalising turns each negative weight w on literal l into -w on the opposite literal; a
--- bound grows by -w, an objective's offset falls by -w. Order and count of terms stay, packed row after row; comment rows are
--- copied as they are. Row by row 11, 8; then 9, 10."
+-- What is the normal form of a row (01)? "Normalising turns each negative weight w on literal l into -w on the opposite
+-- literal; a bound grows by -w, an objective's offset falls by -w. Order and count of terms stay, packed row after row;
+-- comment rows are copied as they are. Row by row 11, 8; then 9, 10."
 use Prim.Native.Nat.{ℕ, suc}
 use mathlib.Core.Bool.{cond, _&&_}
 use mathlib.Core.List.{List, [], _∷_, map}

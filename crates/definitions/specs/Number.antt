@@ -1,5 +1,5 @@
--- How is a number read, and how is one written (01, "The text")? "Number: optional sign, one or more digits, in signed 64 bits.
--- Leading zeros are fine."
+-- How is a number read, and how is one written (01, "The text")? "Number: optional sign, one or more digits, in signed
+-- 64 bits. Leading zeros are fine."
 use Prim.Native.Nat.{ℕ, zero, suc, _+_, _-_, _*_, _/_, _%_}
 use mathlib.Core.Bool.{Bool, true, false, cond}
 use mathlib.Core.List.{List, [], _∷_, _++_}
@@ -7,6 +7,7 @@ use lib.Dec.{ltb, eqb}
 use lib.ListN.{length}
 use lib.IntN.{ℤ, pos, negsuc, negℤ}
 use Rattle.definitions.specs.Limits.{inI64}
+use Rattle.definitions.specs.Refusal.{fault}
 use Rattle.definitions.specs.Bytes.{isDigit, plus, minus}
 use Rattle.definitions.specs.Reader.{Got, none, got, Reader}
 
@@ -30,11 +31,11 @@ signed false m = pos m
 -- a sign of k bytes and the digits behind it: "number missing, sign alone, or beyond 64 bits" is refusal 3
 unfoldable pub ended : Bool → ℕ → List ℕ → Got ℤ
 ended negative k ds =
-    cond (eqb (length ds) 0) (none 3)
-    (cond (inI64 (signed negative (value ds))) (got (signed negative (value ds)) (k + length ds)) (none 3))
+    cond (eqb (length ds) 0) (none (fault 3))
+    (cond (inI64 (signed negative (value ds))) (got (signed negative (value ds)) (k + length ds)) (none (fault 3)))
 
 unfoldable pub number : Reader ℤ
-number [] = none 3
+number [] = none (fault 3)
 number (b ∷ s) =
     cond (eqb b minus) (ended true 1 (leading s))
     (cond (eqb b plus) (ended false 1 (leading s))

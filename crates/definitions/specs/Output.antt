@@ -1,5 +1,5 @@
--- What does an output hold once a text is put into it at a place? "A refused call changes nothing it was lent; an accepted one
--- changes only the entries it counts" (01).
+-- What does an output hold once a text is put into it at a place? "A refused call changes nothing it was lent; an
+-- accepted one changes only the entries it counts" (01).
 use Prim.Native.Nat.{ℕ, _+_}
 use mathlib.Core.Bool.{Bool, cond}
 use mathlib.Core.List.{List, _++_}

@@ -1,11 +1,12 @@
--- What is a step of reading? "Each reading step takes the rest of the file from where the last one stopped" (01, "The text"). A
--- reader says what stands at the front of the rest, with how many bytes it takes, or the number of a refusal.
+-- What is a step of reading? "Each reading step takes the rest of the file from where the last one stopped" (01, "The
+-- text"). A reader says what stands at the front of the rest, with how many bytes it takes, or what it is refused for.
 use Prim.Native.Nat.{ℕ, _+_}
 use mathlib.Core.List.{List}
 use lib.ListN.{drop}
+use Rattle.definitions.specs.Refusal.{Fault}
 
 pub data Got (A : Type 0) : Type 0 where
-  none : ℕ → Got A
+  none : Fault → Got A
   got : A → ℕ → Got A
 
 abbrev pub Reader : Type 0 → Type 0
@@ -27,5 +28,5 @@ chain p k s = thenAt (p s) k s
 unfoldable pub done : {A : Type 0} → A → Reader A
 done a s = got a 0
 
-unfoldable pub fail : {A : Type 0} → ℕ → Reader A
+unfoldable pub fail : {A : Type 0} → Fault → Reader A
 fail e s = none e

@@ -1,5 +1,5 @@
--- What does a table hold (01, "Numbers and tables")? Lent columns: six lists, four with an entry for each row, two with an entry
--- for each term. What is put into them, and which rows are in them.
+-- What does a table hold (01, "Numbers and tables")? Lent columns: six lists, four with an entry for each row, two with
+-- an entry for each term. What is put into them, and which rows are in them.
 use Prim.Native.Nat.{ℕ, _+_, min}
 use mathlib.Core.Bool.{Bool, true, cond, _&&_}
 use mathlib.Core.List.{List, [], _∷_, map}
@@ -127,8 +127,8 @@ unfoldable pub indexed : List Term → Bool
 indexed [] = true
 indexed (t ∷ ts) = isIndex (indexOf (t .code)) && indexed ts
 
--- what the number in the column of kinds says: "comment, clause, cardinality and weighted constraints (at most, at least, equal),
--- objective; a read row's kind is the weighted, comment or objective kind of the same name"
+-- what the number in the column of kinds says: "comment, clause, cardinality and weighted constraints (at most, at
+-- least, equal), objective; a read row's kind is the weighted, comment or objective kind of the same name"
 pub data Sort : Type 0 where
   remark clause unknown : Sort
   weighted cardinality : Kind → Sort

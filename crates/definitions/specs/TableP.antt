@@ -1,5 +1,5 @@
--- Which examples does 01 mark P ("Examples on each side")? One table: what is asked, and 01's answer. proofs/TableP.antt has the
--- one statement over it.
+-- Which examples does 01 mark P ("Examples on each side")? One table: what is asked, and 01's answer.
+-- proofs/TableP.antt has the one statement over it.
 use Prim.Native.Nat.{ℕ}
 use Prim.Native.String as S
 use mathlib.Core.Bool.{Bool, true, false}
@@ -25,7 +25,8 @@ modeFrom first noNegated = record { first = first; plain = noNegated }
 abbrev pub roomy : Table
 roomy = table (0 ∷ 0 ∷ []) (0 ∷ 0 ∷ []) (0 ∷ 0 ∷ []) (pos 0 ∷ pos 0 ∷ []) (pos 0 ∷ pos 0 ∷ []) (0 ∷ 0 ∷ [])
 
--- "file or row", by the first index; a row is written in a mode, as a table of one row of the kind, the bound, the weights and the literals
+-- "file or row", by the first index; a row is written in a mode, as a table of one row of the kind, the bound, the
+-- weights and the literals
 pub data Question : Type 0 where
   reads : ℕ → S.String → Question
   writes : Bool → ℕ → ℕ → ℤ → List ℤ → List ℕ → Question

@@ -1,6 +1,6 @@
--- What do a solver's value lines say (02, A1)? "Bring over `extend_from_vline` of src/types.rs with its three line forms: signed
--- numbers, one string of zeros and ones, and `x` tokens with first index 1." A block of lines says literals that become true; two
--- rows of words hold the values and which of them are known.
+-- What do a solver's value lines say (02, A1)? "Bring over `extend_from_vline` of src/types.rs with its three line
+-- forms: signed numbers, one string of zeros and ones, and `x` tokens with first index 1." A block of lines says
+-- literals that become true; two rows of words hold the values and which of them are known.
 use Prim.Native.Nat.{ℕ, _+_, _-_, _*_, _/_, _%_, _^_, min, max}
 use mathlib.Core.Bool.{Bool, true, false, cond, not, _&&_, _||_}
 use mathlib.Core.List.{List, [], _∷_, _++_}
@@ -69,7 +69,8 @@ formOf s =
 
 -- ---- lines and tokens
 
--- what is met from the front on: a line that does not begin with `v`, or a token, each with the offset of its first byte
+-- what is met from the front on: a line that does not begin with `v`, or a token, each with the offset of its first
+-- byte
 pub data Item : Type 0 where
   untagged : ℕ → Item
   token : ℕ → List ℕ → Item
@@ -78,8 +79,8 @@ pub data Item : Type 0 where
 pub data Spot : Type 0 where
   front between inside : Spot
 
--- Lines are parted by LF, tokens by white space; behind a last LF no line follows. p is the offset. Nothing is met behind a line
--- without `v`.
+-- Lines are parted by LF, tokens by white space; behind a last LF no line follows. p is the offset. Nothing is met
+-- behind a line without `v`.
 unfoldable pub itemsFrom : Spot → ℕ → List ℕ → List Item
 itemsFrom w p [] = []
 itemsFrom front p (b ∷ s) = elim (eqb b letterV) [ true ↦ itemsFrom between (p + 1) s | false ↦ untagged p ∷ [] ]
@@ -149,7 +150,8 @@ literalsOf XTokens n s = xToken s
 
 -- ---- token by token
 
--- "22 conflicting value": the variable of the literal c is known with another value, or the opposite literal was heard before
+-- "22 conflicting value": the variable of the literal c is known with another value, or the opposite literal was heard
+-- before
 unfoldable pub conflicts : List ℕ → List ℕ → List ℕ → ℕ → Bool
 conflicts ws ks heard c = (isKnown ws ks (indexOf c) && not (isTrue (assigned ws) c)) || among (opposite c) heard
 

@@ -1,13 +1,13 @@
--- How do items follow one another, "each from where the last one stopped" (01, "The text")? Statements in a file, terms in a sum.
--- A step says what stands at the front.
+-- How do items follow one another, "each from where the last one stopped" (01, "The text")? Statements in a file, terms
+-- in a sum. A step says what stands at the front.
 use Prim.Native.Nat.{ℕ, zero, suc, pred, _+_}
 use mathlib.Core.List.{List, [], _∷_}
-use Rattle.definitions.specs.Refusal.{Refusal, refusal}
+use Rattle.definitions.specs.Refusal.{Refusal, further}
 
--- no item here; the refusal number n, k bytes on; an item of n bytes
+-- no item here; a refusal, its place counted from here; an item of n bytes
 pub data Step (A : Type 0) : Type 0 where
   stop : Step A
-  bad : ℕ → ℕ → Step A
+  bad : Refusal → Step A
   item : A → ℕ → Step A
 
 -- a refusal; or the items, and where they end
@@ -28,7 +28,7 @@ module _ {A : Type 0} (step : List ℕ → Step A) (place : ℕ → A → A) whe
   walk (b ∷ s) zero at =
       elim (step (b ∷ s)) [
         | stop ↦ items [] at
-        | bad n k ↦ broken (refusal n (at + k))
+        | bad r ↦ broken (further at r)
         | item a n ↦ before (place at a) (walk s (pred n) (at + 1))
       ]
 

@@ -1,5 +1,5 @@
--- Which lines are written (01, "The lines written")? Those of each row of a table, in both literal modes, with the refusals in
--- their order and the length needed.
+-- Which lines are written (01, "The lines written")? Those of each row of a table, in both literal modes, with the
+-- refusals in their order and the length needed.
 use Prim.Native.Nat.{ℕ, zero, suc, _+_}
 use mathlib.Core.Bool.{Bool, true, false, cond, not, _&&_}
 use mathlib.Core.List.{List, [], _∷_, _++_, map}
@@ -125,8 +125,8 @@ unfoldable pub oneLine : List ℕ → Bool
 oneLine [] = true
 oneLine (b ∷ s) = not (eqb b lf) && oneLine s
 
--- 11: "kind unknown ..., terms outside their column, an index above its limit, or, for writing, a comment outside its lent text, a
--- negative weight or a negative cardinality bound"
+-- 11: "kind unknown ..., terms outside their column, an index above its limit, or, for writing, a comment outside its
+-- lent text, a negative weight or a negative cardinality bound"
 abbrev pub itemBy : Sort → Table → List ℕ → Entry → Checked Item
 itemBy remark t text e =
     cond (leb (e .first + e .count) (length text))

@@ -1,6 +1,6 @@
-// What a reader of this project must believe stands in specs/, as definitions on lists of bytes and whole numbers; proofs/ has the
-// theorems and laws that follow from them. Here are only the types that definitions and code share, so that an option, a class or an
-// operator is one thing in both. Assumes nothing.
+// What a reader of this project must believe stands in specs/, as definitions on lists of bytes and whole numbers;
+// proofs/ has the theorems and laws that follow from them. Here are only the types that definitions and code share, so
+// that an option, a class or an operator is one thing in both. Assumes nothing.
 
 // The limits (01, "Numbers and tables"), as specs/Limits.antt has them.
 pub const FILE_LIMIT: usize = 1_073_741_823;
@@ -23,6 +23,14 @@ pub const WORD_LIMIT: usize = 16_777_216;
 // "A needed number above 18,446,744,073,709,551,615 is given as that one."
 pub const NEEDED_LIMIT: u64 = 18_446_744_073_709_551_615;
 
+// What a row that is no comment says: "at least, at most, equal, or objective" (01, "Numbers and tables").
+pub enum Kind {
+    AtLeast,
+    AtMost,
+    Equal,
+    Objective,
+}
+
 // The numbers in the column of kinds, of the read kinds (docs/DECISIONS.md, 8).
 pub const COMMENT: u8 = 0;
 
@@ -39,17 +47,24 @@ pub struct Options {
     pub first: u32,
 }
 
-// How rows are to be written: the first index, and whether in no-negated mode, where every literal is a plain variable (01, "The lines
-// written").
+// How rows are to be written: the first index, and whether in no-negated mode, where every literal is a plain variable
+// (01, "The lines written").
 pub struct Mode {
     pub first: u32,
     pub plain: bool,
 }
 
-// What is given back where a call can not be accepted: the number, and the place that belongs to it (01, "What each number says").
+// What is given back where a call can not be accepted: the number, and the place that belongs to it (01, "What each
+// number says").
 pub struct Refusal {
     pub number: u8,
     pub place: u64,
+}
+
+// What a refused piece of a statement carries. Its place is the statement's (01, "What each number says"), so a piece
+// has the number alone.
+pub struct Fault {
+    pub number: u8,
 }
 
 // How many rows and terms there are.
@@ -58,7 +73,8 @@ pub struct Totals {
     pub terms: usize,
 }
 
-// What a call over a table answers: a refusal, or how many rows and terms there are. specs/Answers.antt says what each case is.
+// What a call over a table answers: a refusal, or how many rows and terms there are. specs/Answers.antt says what each
+// case is.
 pub enum Counted {
     Refused(Refusal),
     Table(Totals),
@@ -70,7 +86,8 @@ pub enum Length {
     Is(usize),
 }
 
-// One row in the columns of a table: "its first term (the count of terms before it), count of terms and bound" (01, "Numbers and tables").
+// One row in the columns of a table: "its first term (the count of terms before it), count of terms and bound" (01,
+// "Numbers and tables").
 pub struct Entry {
     pub kind: u8,
     pub first: usize,

@@ -1,5 +1,5 @@
--- What an accepted evaluation is worth where variables are unknown: sum, truth and value are those under every assignment that
--- agrees with the words on the known variables, whatever it says of the others.
+-- What an accepted evaluation is worth where variables are unknown: sum, truth and value are those under every
+-- assignment that agrees with the words on the known variables, whatever it says of the others.
 use mathlib.Core.Path.{_≡_, refl, sym, ap, _∙_}
 use mathlib.Core.Bool.{Bool, true}
 use mathlib.Core.List.{List, [], _∷_}
@@ -11,7 +11,8 @@ use Rattle.definitions.specs.Table.{Table, accepted}
 use Rattle.definitions.specs.Meaning.{Assignment, isTrue, sumOf, holdsBy, holds, valueOf, assigned, isKnown}
 use Rattle.definitions.specs.Evaluate.{constraint, goal, covered, evaluatingKnown}
 use Rattle.columns.proofs.Every.{both-left, both-right}
-use Rattle.evaluator.proofs.Meant.{Holds, ConstraintMeant, ObjectiveMeant, looked, known-constraint, known-objective}
+use Rattle.assigned.specs.Parts.{looked}
+use Rattle.evaluator.proofs.Meant.{Holds, ConstraintMeant, ObjectiveMeant, known-constraint, known-objective}
 
 -- ---- two assignments that agree where there is a value
 

@@ -13,7 +13,7 @@ use Rattle.definitions.specs.Table.{Table}
 use Rattle.definitions.specs.Meaning.{assigned, onesOf, isKnown}
 use Rattle.definitions.specs.Evaluate.{evaluatingBy, within, evaluating, knownOnes, evaluatingKnown}
 use Rattle.definitions.proofs.Ones.{true-alike}
-use Rattle.evaluator.proofs.Known.{bitOf, full-bit}
+use Rattle.assigned.proofs.Known.{bitOf, full-bit}
 
 -- ---- of words that are all looked at
 

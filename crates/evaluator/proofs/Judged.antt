@@ -1,5 +1,5 @@
 -- A row that is judged is evaluated with no ones: sum, truth and value do not depend on their number.
-use mathlib.Core.Path.{_≡_, refl}
+use mathlib.Core.Path.{_≡_, refl, _∙_}
 use mathlib.Core.Bool.{Bool, true, false, cond}
 use mathlib.Core.List.{List, [], _∷_}
 use Prim.Native.Nat.{ℕ}
@@ -7,11 +7,16 @@ use lib.Dec.{leb}
 use lib.ListN.{drop}
 use Rattle.definitions.specs.Limits.{weightLimit, inI64}
 use Rattle.definitions.specs.Refusal.{Checked, refuse, accept}
-use Rattle.definitions.specs.Row.{Kind, atLeast, atMost, equal, objective, Row, Line, comment, row, sizes}
-use Rattle.definitions.specs.Table.{Table, entries, lineIn, andThen}
+use Rattle.definitions.specs.Row.{Row, Line, comment, row, sizes}
+use Rattle.definitions.specs.declared.Kind.{Kind}
+use Rattle.definitions.specs.declared.Kind.the-variants.{AtLeast as atLeast, AtMost as atMost, Equal as equal, Objective as objective}
+use Rattle.definitions.specs.Table.{Table, Outcome, entries, lineIn, andThen}
 use Rattle.definitions.specs.declared.Entry.{Entry}
-use Rattle.definitions.specs.Meaning.{Assignment, valueOf}
-use Rattle.definitions.specs.Evaluate.{goal, covered, foundBy, found, foundIn, frontBy, onPlace, evaluatingBy, withoutOnes}
+use Rattle.definitions.specs.Meaning.{Assignment, valueOf, assigned, isKnown}
+use Rattle.definitions.specs.Evaluate.{Evaluated, goal, covered, foundBy, found, foundIn, frontBy, onPlace, evaluatingBy}
+use Rattle.definitions.specs.Evaluate.{knownOnes, evaluatingKnown, withoutOnes, judging}
+use Rattle.assigned.specs.Parts.{looked}
+use Rattle.rows.specs.Parts.{evaluatingOf}
 
 module _ (i : ℕ) (has : ℕ → Bool) (a : Assignment) (ones : ℕ) where
   by-value : (b : Bool) (r : Row)
@@ -50,3 +55,10 @@ module _ (i : ℕ) (has : ℕ → Bool) (a : Assignment) (ones : ℕ) where
   pub without-ones : (t : Table) → evaluatingBy has a 0 t i ≡ withoutOnes (evaluatingBy has a ones t i)
   unfolding evaluatingBy
   without-ones t = by-front (drop i (entries t)) t
+
+-- so under both rows of words
+pub judged-is : (t : Table) (i : ℕ) (ws ks : List ℕ) (o : Outcome Evaluated) → o ≡ evaluatingOf t i false (looked ws) (looked ks) 0
+    → o ≡ judging t i ws ks
+unfolding judging evaluatingKnown looked
+judged-is t i ws ks o e =
+    e ∙ without-ones i (isKnown (looked ws) (looked ks)) (assigned (looked ws)) (knownOnes (looked ws) (looked ks)) t

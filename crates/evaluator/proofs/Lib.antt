@@ -1,9 +1,3 @@
-pub mod Relations
-pub mod Known
-pub mod Literals
-pub mod Sums
-pub mod Counts
-pub mod Answers
 pub mod Judged
 pub mod Meant
 pub mod AllKnown

@@ -1,6 +1,7 @@
--- What an accepted answer means: the row that the table holds at the place, of which every variable has a value, its sum under the
--- assignment, whether it holds, or its value, and the number of true variables. The assignment is that of the words that are looked
--- at. Said once for any assignment, then for words of which everything is known and for words with a second row that says what is.
+-- What an accepted answer means: the row that the table holds at the place, of which every variable has a value, its
+-- sum under the assignment, whether it holds, or its value, and the number of true variables. The assignment is that of
+-- the words that are looked at. Said once for any assignment, then for words of which everything is known and for words
+-- with a second row that says what is.
 use mathlib.Core.Path.{_≡_, refl, sym, _∙_}
 use mathlib.Core.Bool.{Bool, true, false, cond}
 use mathlib.Core.List.{List}
@@ -10,17 +11,19 @@ use native.Mathlib.Decide.{decLt}
 use denote.Ref.{now}
 use lib.Dec.{leb}
 use lib.IntN.{ℤ}
-use lib.ListN.{take}
-use Rattle.definitions.specs.Limits.{weightLimit, wordLimit, inI64}
+use Rattle.definitions.specs.Limits.{weightLimit, inI64}
 use Rattle.definitions.specs.Refusal.{Checked, refuse, accept}
-use Rattle.definitions.specs.Row.{Kind, atLeast, atMost, equal, objective, Row, Line, comment, row, sizes}
+use Rattle.definitions.specs.Row.{Row, Line, comment, row, sizes}
+use Rattle.definitions.specs.declared.Kind.{Kind}
+use Rattle.definitions.specs.declared.Kind.the-variants.{AtLeast as atLeast, AtMost as atMost, Equal as equal, Objective as objective}
 use Rattle.definitions.specs.Table.{Table, table, rowRoom, accepted, lineIn, andThen}
 use Rattle.definitions.specs.Meaning.{Assignment, sumOf, holds, valueOf, assigned, onesOf, isKnown}
 use Rattle.definitions.specs.Evaluate.{Evaluated as Found, constraint, goal, covered, foundBy, found, foundIn, onPlace}
 use Rattle.definitions.specs.Evaluate.{evaluatingBy, within, evaluating, knownOnes, evaluatingKnown}
 use Rattle.columns.proofs.Terms.{entryAt, entries-from}
-use Rattle.evaluator.specs.declared.Evaluated.the-variants.{Constraint, Objective}
-use Rattle.evaluator.proofs.Answers.{row-missing}
+use Rattle.verdicts.specs.declared.Evaluated.the-variants.{Constraint, Objective}
+use Rattle.assigned.specs.Parts.{looked}
+use Rattle.rows.proofs.Answers.{row-missing}
 use Rattle.evaluator.proofs.evaluate.Reads as evaluate
 use Rattle.evaluator.proofs.evaluate_known.Reads as evaluate-known
 
@@ -136,19 +139,15 @@ module _ (has : ℕ → Bool) (a : Assignment) (n : ℕ) where
 
 -- ---- all that the words hold is known
 
--- the words that are looked at
-abbrev pub looked : List ℕ → List ℕ
-looked ws = take wordLimit ws
-
 module _ (t : Table) (i : ℕ) (ws : List ℕ) where
   pub evaluating-constraint : (sum : ℤ) (h : Bool) (ones : ℕ) → evaluating t i ws ≡ accepted (constraint sum h ones)
       → ConstraintMeant t i (within (looked ws)) (assigned (looked ws)) sum h × (ones ≡ onesOf (looked ws))
-  unfolding evaluating
+  unfolding evaluating looked
   evaluating-constraint sum h ones e = by-constraint (within (looked ws)) (assigned (looked ws)) (onesOf (looked ws)) t i sum h ones e
 
   pub evaluating-objective : (value : ℤ) (ones : ℕ) → evaluating t i ws ≡ accepted (goal value ones)
       → ObjectiveMeant t i (within (looked ws)) (assigned (looked ws)) value × (ones ≡ onesOf (looked ws))
-  unfolding evaluating
+  unfolding evaluating looked
   evaluating-objective value ones e = by-objective (within (looked ws)) (assigned (looked ws)) (onesOf (looked ws)) t i value ones e
 
 -- ---- a second row says which variables are known
@@ -156,13 +155,13 @@ module _ (t : Table) (i : ℕ) (ws : List ℕ) where
 module _ (t : Table) (i : ℕ) (ws ks : List ℕ) where
   pub known-constraint : (sum : ℤ) (h : Bool) (ones : ℕ) → evaluatingKnown t i ws ks ≡ accepted (constraint sum h ones)
       → ConstraintMeant t i (isKnown (looked ws) (looked ks)) (assigned (looked ws)) sum h × (ones ≡ knownOnes (looked ws) (looked ks))
-  unfolding evaluatingKnown
+  unfolding evaluatingKnown looked
   known-constraint sum h ones e =
       by-constraint (isKnown (looked ws) (looked ks)) (assigned (looked ws)) (knownOnes (looked ws) (looked ks)) t i sum h ones e
 
   pub known-objective : (value : ℤ) (ones : ℕ) → evaluatingKnown t i ws ks ≡ accepted (goal value ones)
       → ObjectiveMeant t i (isKnown (looked ws) (looked ks)) (assigned (looked ws)) value × (ones ≡ knownOnes (looked ws) (looked ks))
-  unfolding evaluatingKnown
+  unfolding evaluatingKnown looked
   known-objective value ones e =
       by-objective (isKnown (looked ws) (looked ks)) (assigned (looked ws)) (knownOnes (looked ws) (looked ks)) t i value ones e
 

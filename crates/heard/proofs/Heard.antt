@@ -1,5 +1,5 @@
--- Token by token, as the definition hears a block, and all at once, as the code does: the literals said before the first 20, 21 or
--- 5, the first conflict among them, and that refusal.
+-- Token by token, as the definition hears a block, and all at once, as the code does: the literals said before the
+-- first 20, 21 or 5, the first conflict among them, and that refusal.
 use mathlib.Core.Path.{_≡_, refl, sym, ap, _∙_}
 use mathlib.Core.Bool.{Bool, true, false, cond, not, _&&_, _||_}
 use mathlib.Core.List.{List, [], _∷_, _++_, map, append-nil}
@@ -19,7 +19,7 @@ use Rattle.definitions.specs.Literal.{codeOf, index, isIndex}
 use Rattle.definitions.specs.Values.{Item, untagged, token, wholeNumber, literalFor, signedFor, signedToken, namedVariable, xToken}
 use Rattle.definitions.specs.Values.{conflicts, anyConflict, hear, literalsOf}
 use Rattle.tokens.specs.Said.{tokenSays, formBy}
-use Rattle.heard.specs.Flat.{Placed, placed, codeIn, saidBy, stopOf}
+use Rattle.settling.specs.Flat.{Placed, placed, codeIn, saidBy, stopOf}
 use Rattle.heard.specs.Windows.{conflictAt, PlacesBelow}
 use Rattle.heard.proofs.Split.{conflict-here, conflict-later}
 

@@ -12,7 +12,8 @@ use Rattle.definitions.specs.declared.Refusal.{Refusal}
 use Rattle.definitions.specs.Table.{Outcome, refused, accepted}
 use Rattle.definitions.specs.Values.{Item, front, itemsFrom, hear, lengthAfter}
 use Rattle.tokens.specs.Said.{formBy}
-use Rattle.heard.specs.Flat.{codeIn, saidBy, stopOf, surveyOf}
+use Rattle.settling.specs.Flat.{codeIn, saidBy, stopOf}
+use Rattle.heard.specs.Surveys.{surveyOf}
 use Rattle.heard.specs.Windows.{conflictAt, PlacesBelow}
 use Rattle.heard.specs.declared.survey.Surveyed.{Surveyed}
 use Rattle.heard.proofs.Heard.{flatly, stopped, hear-flatly, flatly-conflict, flatly-fine, flatly-accepts}

@@ -1,6 +1,6 @@
 pub mod Split
 pub mod Places
-pub mod Steps
+pub mod Surveying
 pub mod Marking
 pub mod Searching
 pub mod Heard

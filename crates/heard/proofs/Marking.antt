@@ -1,5 +1,5 @@
--- The walk for one window: the marks are the literals heard of the window, each with the bit of its code; the answer so far and
--- what is left give the answer of the whole.
+-- The walk for one window: the marks are the literals heard of the window, each with the bit of its code; the answer so
+-- far and what is left give the answer of the whole.
 use Prim.Native.Nat.{ℕ, _+_, _*_, _≤_, _<_, min}
 use mathlib.Core.Path.{_≡_, refl, sym, ap, _∙_}
 use mathlib.Core.Bool.{Bool, true, false, cond, not, _&&_, _||_}
@@ -12,8 +12,8 @@ use Rattle.definitions.specs.Limits.{indexLimit}
 use Rattle.definitions.specs.Literal.{indexOf, opposite}
 use Rattle.definitions.specs.Meaning.{isTrue, assigned, isKnown}
 use Rattle.definitions.specs.Values.{front, itemsFrom, among, conflicts, bitMade}
-use Rattle.heard.specs.Flat.{Placed, placed, saidBy}
-use Rattle.tokens.specs.Steps.{spotOf, onFrom}
+use Rattle.settling.specs.Flat.{Placed, placed, saidBy}
+use Rattle.items.specs.Items.{spotOf, onFrom}
 use Rattle.heard.specs.Windows.{windowSize, conflictAt, only, inWindow, leastFrom, windowOf, PlacesBelow, marksSize, markOf}
 use Rattle.heard.specs.Windows.{Unmarked, clashes, meetOf, markedBy, noted}
 use Rattle.heard.specs.declared.conflicts.Window.{Window}
@@ -24,7 +24,7 @@ use Rattle.heard.proofs.Split.{conflict-here, conflict-later, only-in, 
 use Rattle.heard.proofs.Split.{conflict-from, conflict-within, window-in, window-before, window-behind, least-here, least-on}
 use Rattle.heard.proofs.Split.{least-is}
 use Rattle.heard.proofs.Places.{orderly-from}
-use Rattle.heard.proofs.Steps.{ends, refuses, says, stepOf, ends-step, refuses-step, says-step}
+use Rattle.settling.proofs.Steps.{ends, refuses, says, stepOf, ends-step, refuses-step, says-step}
 
 -- the mark of each literal of the window says whether it was heard
 abbrev pub Marks : ℕ → List ℕ → List ℕ → Type 0

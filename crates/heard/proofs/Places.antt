@@ -1,5 +1,5 @@
--- The literals that a block says, in order: their places ascend, and lie before the place where the walk stops; a token says one
--- literal at most, of a variable within the limit.
+-- The literals that a block says, in order: their places ascend, and lie before the place where the walk stops; a token
+-- says one literal at most, of a variable within the limit.
 use Prim.Native.Nat.{ℕ, _+_, _-_, _≤_}
 use mathlib.Core.Path.{_≡_, refl}
 use mathlib.Core.Bool.{Bool, true, false, cond, _&&_, _||_}
@@ -17,7 +17,7 @@ use Rattle.definitions.specs.Table.{andThen}
 use Rattle.definitions.specs.Values.{Item, untagged, token, Spot, front, between, inside, itemsFrom, letterV, isWhite, isSolid}
 use Rattle.definitions.specs.Values.{frontOf, wholeNumber, literalFor, signedFor, signedToken, namedVariable, xToken}
 use Rattle.tokens.specs.Said.{tokenSays}
-use Rattle.heard.specs.Flat.{Placed, placed, saidBy, stopOf}
+use Rattle.settling.specs.Flat.{Placed, placed, saidBy, stopOf}
 use Rattle.heard.specs.Windows.{PlacesBelow}
 use Rattle.heard.proofs.Split.{Ascending, ascending-from, Known}
 

@@ -9,7 +9,7 @@ use lib.ListN.{getD, replicate}
 use Rattle.definitions.specs.Limits.{indexLimit}
 use Rattle.definitions.specs.Meaning.{assigned}
 use Rattle.definitions.specs.Values.{front, itemsFrom}
-use Rattle.heard.specs.Flat.{Placed, saidBy}
+use Rattle.settling.specs.Flat.{Placed, saidBy}
 use Rattle.heard.specs.Windows.{windowSize, conflictAt, leastFrom, windowOf, PlacesBelow, Unmarked}
 use Rattle.heard.specs.declared.conflicts.Window.{Window}
 use Rattle.heard.proofs.Split.{Ascending, Known, firstBelow, windows-start, windows-step, windows-end, least-is}

@@ -1,5 +1,5 @@
--- A conflict of a literal depends only on what was said of its own variable: the first conflict of a list is the first of those of
--- its parts, where each variable belongs to one part.
+-- A conflict of a literal depends only on what was said of its own variable: the first conflict of a list is the first
+-- of those of its parts, where each variable belongs to one part.
 use Prim.Native.Nat.{ℕ, _+_, _≤_, _<_, min}
 use mathlib.Core.Path.{_≡_, refl, sym, ap, _∙_}
 use mathlib.Core.Bool.{Bool, true, false, _||_, or-false, or-assoc, and-false}
@@ -10,7 +10,7 @@ use lib.Dec.{leb, ltb, eqb}
 use Rattle.definitions.specs.Limits.{indexLimit}
 use Rattle.definitions.specs.Literal.{indexOf, opposite}
 use Rattle.definitions.specs.Values.{among, conflicts}
-use Rattle.heard.specs.Flat.{Placed}
+use Rattle.settling.specs.Flat.{Placed}
 use Rattle.heard.specs.Windows.{windowSize, conflictAt, only, inWindow, below, leastFrom, PlacesBelow}
 
 -- two of which both cannot be

@@ -1,2 +1,2 @@
-pub mod Flat
+pub mod Surveys
 pub mod Windows

@@ -1,5 +1,5 @@
--- The first conflict, found window by window: a conflict of a literal depends only on what was said of its own variable, so that
--- each window of variables has a walk of its own.
+-- The first conflict, found window by window: a conflict of a literal depends only on what was said of its own
+-- variable, so that each window of variables has a walk of its own.
 use Prim.Native.Nat.{ℕ, _+_, _-_, _*_, _<_, min}
 use mathlib.Core.Path.{_≡_}
 use mathlib.Core.Bool.{Bool, true, false, cond, not, _&&_, _||_}
@@ -9,7 +9,7 @@ use Rattle.definitions.specs.Limits.{indexLimit}
 use Rattle.definitions.specs.Literal.{indexOf, opposite}
 use Rattle.definitions.specs.Meaning.{isTrue, assigned, isKnown}
 use Rattle.definitions.specs.Values.{conflicts, bitMade}
-use Rattle.heard.specs.Flat.{Placed}
+use Rattle.settling.specs.Flat.{Placed}
 use Rattle.heard.specs.declared.conflicts.Window.{Window}
 use Rattle.heard.specs.declared.conflicts.Met.{Met}
 use Rattle.heard.specs.declared.conflicts.Met.the-variants as met

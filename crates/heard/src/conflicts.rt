@@ -1,5 +1,6 @@
-// The first conflict in a block of signed numbers or `x` tokens (02, A1: "22 conflicting value"). Nothing may be marked in the lent words before the block is known to be good, so what a token
-// said is marked in a local row of bits, for a window of variables; each window in use has a walk of its own. Assumes nothing.
+// The first conflict in a block of signed numbers or `x` tokens (02, A1: "22 conflicting value"). Nothing may be marked
+// in the lent words before the block is known to be good, so what a token said is marked in a local row of bits, for a
+// window of variables; each window in use has a walk of its own. Assumes nothing.
 use bits::bit_at;
 use bits::is_otherwise;
 use bits::make_bit;
@@ -13,7 +14,7 @@ ghost use Prim.Native.Nat.{_≤_, min};
 ghost use lib.ListN.{length};
 ghost use Rattle.definitions.specs.Literal.{indexOf};
 ghost use Rattle.definitions.specs.Values.{front, itemsFrom};
-ghost use Rattle.heard.specs.Flat.{saidBy};
+ghost use Rattle.settling.specs.Flat.{saidBy};
 ghost use Rattle.heard.specs.Windows.{conflictAt, windowOf, marksSize, PlacesBelow, Unmarked, clashes, meetOf, markedBy, noted};
 
 // How many variables a window has.
@@ -33,7 +34,8 @@ enum Met {
     Marked,
 }
 
-// Whether a literal of the window is known otherwise, or its opposite is marked. The mark of a literal is the bit of its code, counted from the window's first.
+// Whether a literal of the window is known otherwise, or its opposite is marked. The mark of a literal is the bit of
+// its code, counted from the window's first.
 fn clashes(literal: Lit, base: u32, marks: &[u64], values: &[u64], known: &[u64]) -> bool
     requires { ⌜ base ≤ indexOf (literal .0) ⌝ }
     ensures { λ r. ⌜ r ≡ clashes (now (values .entry)) (now (known .entry)) (now (marks .entry)) base (literal .0) ⌝ }
@@ -77,7 +79,8 @@ fn earlier(a: usize, b: usize) -> usize
     if a < b { a } else { b }
 }
 
-// The answer so far, with one literal more. After the first conflict the walk goes on for the variables behind the window; a later conflict has a later place.
+// The answer so far, with one literal more. After the first conflict the walk goes on for the variables behind the
+// window; a later conflict has a later place.
 fn note(met: Met, place: usize, found: Window) -> Window
     ensures { λ r. ⌜ r ≡ noted met place found ⌝ }
 {

@@ -1,19 +1,18 @@
-// A block of signed numbers or `x` tokens (02, A1): what is heard in it, and its literals made true. Three walks: one finds the first 20, 21 or 5 and the length,
-// one the first conflict before it, and once all is known to be good the last sets bits. Assumes nothing.
+// A block of signed numbers or `x` tokens (02, A1): what is heard in it. Two walks: one finds the first 20, 21 or 5 and
+// the length, one the first conflict before it. Assumes nothing.
 mod conflicts;
-mod settling;
 mod survey;
 
 use definitions::Length;
 use definitions::Refusal;
-pub use settling::settle;
 ghost use mathlib.Core.Path.{_≡_};
 ghost use mathlib.Core.List.{[]};
 ghost use Rattle.definitions.specs.Answers.{saidLength};
 ghost use Rattle.definitions.specs.Values.{front, itemsFrom, hear, newLength};
 ghost use Rattle.tokens.specs.Said.{formBy};
 
-// "per line 20, then by token 21, 5, 22, each placed at its first byte"; or the length, one past the highest variable met.
+// "per line 20, then by token 21, 5, 22, each placed at its first byte"; or the length, one past the highest variable
+// met.
 pub fn hear(block: &[u8], named: bool, kept: u64, values: &[u64], known: &[u64]) -> Length
     ensures { λ r. ⌜ saidLength r ≡ newLength kept (hear (formBy named) kept (now (values .entry)) (now (known .entry)) [] (itemsFrom front 0 (now (block .entry)))) ⌝ }
 {

@@ -1,4 +1,5 @@
-// The first walk over a block of signed numbers or `x` tokens: the first 20, 21 or 5, and the length that all before it asks for. Assumes nothing.
+// The first walk over a block of signed numbers or `x` tokens: the first 20, 21 or 5, and the length that all before it
+// asks for. Assumes nothing.
 use literals::Lit;
 use tokens::Next;
 use tokens::next_token;
@@ -7,7 +8,7 @@ ghost use Prim.Native.Nat.{_+_, max};
 ghost use lib.ListN.{length};
 ghost use Rattle.definitions.specs.Literal.{indexOf};
 ghost use Rattle.definitions.specs.Values.{front, itemsFrom};
-ghost use Rattle.heard.specs.Flat.{surveyOf};
+ghost use Rattle.heard.specs.Surveys.{surveyOf};
 
 // The number is 0 where nothing is refused; then the place is the block's end.
 pub(crate) struct Surveyed {

@@ -1,5 +1,5 @@
--- Each public function has one possible answer for each input: two that its contract allows are equal. `next` leaves one
--- walker, and `fill` one content of each column.
+-- Each public function has one possible answer for each input: two that its contract allows are equal. `next` leaves
+-- one walker, and `fill` one content of each column.
 use mathlib.Core.Path.{_≡_, sym, _∙_}
 use denote.Ref.{now}
 use Rattle.definitions.proofs.Answers.{length-known}

@@ -1,12 +1,12 @@
-// "struct with the file slice and offset; thin stepping functions over the covered statement reader" (01). Each function
-// takes the struct apart and calls a function of the crate walker, so each is proved by a walk of its own; whoever calls
-// `walker::step_at` needs none. Assumes nothing.
+// "struct with the file slice and offset; thin stepping functions over the covered statement reader" (01). Each
+// function takes the struct apart and calls a function of the crate walker, so each is proved by a walk of its own;
+// whoever calls `walker::step_at` needs none. Assumes nothing.
 use definitions::Length;
 use definitions::Options;
 use walker::Stepped;
 ghost use mathlib.Core.Path.{_≡_};
 ghost use Rattle.definitions.specs.Stepping.{stepAt, termsAtStep};
-ghost use Rattle.statements.specs.FillsTerms.{FillsTerms};
+ghost use Rattle.fills.specs.FillsTerms.{FillsTerms};
 ghost use Rattle.walker.specs.Said.{saidStepped, briefStepped};
 ghost use Rattle.held.specs.Walks.{walkerAt, stepOf, Nexts};
 
@@ -66,5 +66,5 @@ pub fn next<'s, 'a>(w: &'s mut Walker<'a>) -> Stepped
 pub fn fill<'a>(w: Walker<'a>, weights: &mut [i64], literals: &mut [u32]) -> Length
     ensures { λ r. ⌜ FillsTerms (termsAtStep (w .entry .options) (now (w .entry .file)) (w .entry .at) (now (weights .entry)) (now (literals .entry))) (now (weights .entry)) (now (literals .entry)) r (now (weights .exit)) (now (literals .exit)) ⌝ }
 {
-    walker::fill_at(w.file, w.options, w.at, weights, literals)
+    fills::fill_at(w.file, w.options, w.at, weights, literals)
 }

@@ -1,4 +1,5 @@
--- The whole listing: the length that the code counts is the length needed, and the head with the lines behind it is the text.
+-- The whole listing: the length that the code counts is the length needed, and the head with the lines behind it is the
+-- text.
 use mathlib.Core.Path.{_≡_, refl, ap, _∙_}
 use mathlib.Core.List.{List, [], _∷_, _++_}
 use Prim.Native.Nat.{ℕ, zero, suc, _+_, _≤_, _<_}

@@ -1,4 +1,5 @@
--- What `list_table` promises: the house lines of a table, from the front of the output, or a refusal that changes nothing.
+-- What `list_table` promises: the house lines of a table, from the front of the output, or a refusal that changes
+-- nothing.
 use Prim.Native.Nat.{ℕ}
 use mathlib.Core.Path.{_≡_}
 use mathlib.Core.List.{List}

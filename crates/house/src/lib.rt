@@ -1,5 +1,6 @@
-// The house lines of the listing program (01, "Examples on each side"), from a table into a lent output. Two walks over the rows: house_measures checks and counts, and what it has accepted is put.
-// Every table gets an answer; a refused call changes nothing. specs/Lists.antt says what `list_table` promises. Assumes nothing.
+// The house lines of the listing program (01, "Examples on each side"), from a table into a lent output. Two walks over
+// the rows: house_measures checks and counts, and what it has accepted is put. Every table gets an answer; a refused
+// call changes nothing. specs/Lists.antt says what `list_table` promises. Assumes nothing.
 mod lines;
 mod terms;
 

@@ -1,7 +1,10 @@
-// The second walk: the head and the lines of rows that the first walk has accepted, into an output that has room for all of it.
-// Assumes nothing.
+// The second walk: the head and the lines of rows that the first walk has accepted, into an output that has room for
+// all of it. Assumes nothing.
 use crate::terms::put_terms;
+use definitions::AT_LEAST;
+use definitions::AT_MOST;
 use definitions::COMMENT;
+use definitions::EQUAL;
 use puts::put_field;
 use puts::put_number;
 use puts::put_text;
@@ -50,9 +53,9 @@ fn put_word(kind: u8, out: &mut [u8], at: usize) -> usize
     ensures { λ r. ⌜ Puts (wordField (readKind kind)) at (now (out .entry)) r (now (out .exit)) ⌝ }
 {
     match kind {
-        1 => put_text(b"ge\t", out, at),
-        2 => put_text(b"le\t", out, at),
-        3 => put_text(b"eq\t", out, at),
+        AT_LEAST => put_text(b"ge\t", out, at),
+        AT_MOST => put_text(b"le\t", out, at),
+        EQUAL => put_text(b"eq\t", out, at),
         _ => put_text(b"min\t", out, at),
     }
 }

@@ -1,4 +1,5 @@
--- Laws of the words of a line: which kind a number is, and a line in the pieces that the code puts one behind the other.
+-- Laws of the words of a line: which kind a number is, and a line in the pieces that the code puts one behind the
+-- other.
 use mathlib.Core.Path.{_≡_, refl, sym, ap}
 use mathlib.Core.List.{List, [], _∷_, _++_, append-assoc}
 use Prim.Native.Nat.{ℕ, zero, suc, _+_, _≤_}
@@ -8,7 +9,9 @@ use lib.ListN.{length, length-append}
 use Rattle.definitions.specs.Lists.{joined}
 use Rattle.definitions.specs.Bytes.{tab, lf}
 use Rattle.definitions.specs.Number.{decimal, integerText}
-use Rattle.definitions.specs.Row.{Term, Kind, atLeast, atMost, equal, objective, Line, comment, row, rowOf}
+use Rattle.definitions.specs.Row.{Term, Line, comment, row, rowOf}
+use Rattle.definitions.specs.declared.Kind.{Kind}
+use Rattle.definitions.specs.declared.Kind.the-variants.{AtLeast as atLeast, AtMost as atMost, Equal as equal, Objective as objective}
 use Rattle.definitions.specs.Table.{accepted, allTerms}
 use Rattle.definitions.specs.House.{field, kindWord, termFields, houseLine, headLine, listing}
 use Rattle.columns.specs.Kinds.{readKind}

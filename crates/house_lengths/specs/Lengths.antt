@@ -24,7 +24,8 @@ abbrev pub saidTermLength : TermLength → Checked ℕ
 saidTermLength (term-length.Is n) = accept n
 saidTermLength term-length.OutOfRange = refuse 5
 
--- the length of its line, of a row with this number of a kind, this count and this bound, whose terms' fields have the length `terms`
+-- the length of its line, of a row with this number of a kind, this count and this bound, whose terms' fields have the
+-- length `terms`
 abbrev pub lineLength : ℕ → ℕ → ℤ → ℕ → ℕ
 lineLength kind count bound terms =
     cond (eqb kind 0) (needed (length (commentLine count)))

@@ -6,7 +6,7 @@ use mathlib.Core.List.{List, [], _∷_, _++_}
 use lib.IntN.{ℤ}
 use Rattle.definitions.specs.Bytes.{tab, lf, letterX, tilde}
 use Rattle.definitions.specs.Number.{decimal, integerText}
-use Rattle.definitions.specs.Row.{Kind}
+use Rattle.definitions.specs.declared.Kind.{Kind}
 use Rattle.definitions.specs.House.{field, kindWord}
 
 -- the word of a kind, and the tab behind it

@@ -1,5 +1,8 @@
 // How long a row's line is, and the whole text. Assumes nothing.
+use definitions::AT_LEAST;
+use definitions::AT_MOST;
 use definitions::COMMENT;
+use definitions::EQUAL;
 use lengths::add_needed;
 ghost use mathlib.Core.Path.{_≡_};
 ghost use Prim.Native.Nat.{_+_};
@@ -15,7 +18,7 @@ fn word_length(kind: u8) -> usize
     ensures { λ r. ⌜ r ≡ length (kindWord (readKind kind)) ⌝ }
 {
     match kind {
-        1 | 2 | 3 => 2,
+        AT_LEAST | AT_MOST | EQUAL => 2,
         _ => 3,
     }
 }

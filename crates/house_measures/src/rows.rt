@@ -1,4 +1,5 @@
-// The first walk over the rows of a table: each is checked, and terms and the length of the lines are counted. Assumes nothing.
+// The first walk over the rows of a table: each is checked, and terms and the length of the lines are counted. Assumes
+// nothing.
 use crate::terms::TermsLength;
 use crate::terms::terms_length;
 use definitions::COMMENT;

@@ -1,4 +1,5 @@
--- Two answers that the contract of `list_file` allows are equal, and so is what they leave in the columns and in the output lent.
+-- Two answers that the contract of `list_file` allows are equal, and so is what they leave in the columns and in the
+-- output lent.
 use mathlib.Core.Path.{_≡_, sym, _∙_}
 use denote.Ref.{now}
 use Rattle.definitions.specs.Table.{table}

@@ -12,7 +12,8 @@ use Rattle.definitions.specs.Answers.{saidLength}
 use Rattle.listing_read.specs.ListsRead.{fileListing}
 use Rattle.definitions.specs.declared.Length.{Length}
 
--- what the columns hold after a call that read x and listed it, or was refused: "A refused call changes nothing it was lent"
+-- what the columns hold after a call that read x and listed it, or was refused: "A refused call changes nothing it was
+-- lent"
 abbrev pub tableAfter : Outcome (List ℕ) → Outcome (List Line) → Table → Table
 tableAfter (refused r) x t = t
 tableAfter (accepted text) x t = after x t

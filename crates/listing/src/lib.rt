@@ -1,6 +1,7 @@
-// A file's house lines (01, "Examples on each side"): the file is read into lent columns, and what was read, or the refusal, is listed into a lent output. All of
-// the listing program but reading its input and printing its output. The lines are measured first (listing_lengths), so that a refused call changes nothing.
-// specs/ListsFile.antt says what is promised. Assumes nothing.
+// A file's house lines (01, "Examples on each side"): the file is read into lent columns, and what was read, or the
+// refusal, is listed into a lent output. All of the listing program but reading its input and printing its output. The
+// lines are measured first (listing_lengths), so that a refused call changes nothing. specs/ListsFile.antt says what is
+// promised. Assumes nothing.
 use definitions::Length;
 use definitions::Options;
 use definitions::Refusal;

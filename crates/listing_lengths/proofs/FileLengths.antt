@@ -1,4 +1,5 @@
--- A file's walk that measures: where it stands, with what is counted of the lines before it; and the length of the whole text.
+-- A file's walk that measures: where it stands, with what is counted of the lines before it; and the length of the
+-- whole text.
 use Prim.Native.Nat.{ℕ, _+_, _≤_, _<_, _^_}
 use mathlib.Core.Path.{_≡_, refl, sym, ap, _∙_}
 use mathlib.Core.List.{List, [], _∷_, _++_}
@@ -7,7 +8,7 @@ use borrow.Author.Tests.{le-leb, lt-leb}
 use lib.ListN.{length, drop, length-append, length-drop}
 use Rattle.definitions.specs.Lists.{joined}
 use Rattle.definitions.specs.Limits.{fileLimit}
-use Rattle.definitions.specs.Refusal.{refusal, needed}
+use Rattle.definitions.specs.Refusal.{refusal, needed, further}
 use Rattle.definitions.specs.declared.Refusal.{Refusal}
 use Rattle.definitions.specs.Walk.{stop, bad, item, Walked, all}
 use Rattle.definitions.specs.Row.{Line, comment, row, termsOf}
@@ -82,12 +83,12 @@ module _ (o : Options) (s : List ℕ) where
         rw (statements-by _ (at-stop (statement o) inFile (statement-moves o) s at (w .found) (w .stands) e))
         (sizes-eq (w .counted) (w .termed) (w .sized))
 
-    module _ (n k : ℕ) (e : statement o (drop at s) ≡ bad n k) where
-      pub bad-fits : at + k ≤ length s
-      bad-fits = omega (arith, bad-within o (drop at s) n k e, length-drop at s, w .stands .within)
+    module _ (r : Refusal) (e : statement o (drop at s) ≡ bad r) where
+      pub bad-fits : at + r .place ≤ length s
+      bad-fits = omega (arith, bad-within o (drop at s) r e, length-drop at s, w .stands .within)
 
-      pub file-bad : refused (refusal n (at + k)) ≡ fileSizes (o .first) (linesOf (statements o s))
-      file-bad = rw (statements-by _ (at-bad (statement o) inFile (statement-moves o) s at (w .found) (w .stands) n k e))
+      pub file-bad : refused (further at r) ≡ fileSizes (o .first) (linesOf (statements o s))
+      file-bad = rw (statements-by _ (at-bad (statement o) inFile (statement-moves o) s at (w .found) (w .stands) r e))
 
     -- a line of n bytes
     module _ (x : Entry) (n : ℕ) (e : item x n ≡ briefStep (statement o (drop at s))) where

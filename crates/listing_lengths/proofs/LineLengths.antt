@@ -8,7 +8,9 @@ use lib.ListN.{length, drop}
 use Rattle.definitions.specs.Lists.{joined}
 use Rattle.definitions.specs.Refusal.{needed}
 use Rattle.definitions.specs.Walk.{item}
-use Rattle.definitions.specs.Row.{Kind, atLeast, atMost, equal, objective, Line, comment, row, termsOf}
+use Rattle.definitions.specs.Row.{Line, comment, row, termsOf}
+use Rattle.definitions.specs.declared.Kind.{Kind}
+use Rattle.definitions.specs.declared.Kind.the-variants.{AtLeast as atLeast, AtMost as atMost, Equal as equal, Objective as objective}
 use Rattle.definitions.specs.Table.{kindNumber}
 use Rattle.definitions.specs.Text.{statement}
 use Rattle.definitions.specs.House.{houseLine}

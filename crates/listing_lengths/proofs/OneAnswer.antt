@@ -1,4 +1,5 @@
--- Two answers that the contract of `listing_length` allows are equal: there is a table with room for any rows and terms.
+-- Two answers that the contract of `listing_length` allows are equal: there is a table with room for any rows and
+-- terms.
 use Prim.Native.Nat.{ℕ, zero, suc}
 use mathlib.Core.Path.{_≡_, refl, sym, ap, _∙_}
 use mathlib.Core.List.{List, [], _∷_}

@@ -5,6 +5,7 @@ use mathlib.Core.List.{List, [], _∷_}
 use native.Mathlib.Omega.{arith}
 use lib.ListN.{length, drop, length-drop, length-append}
 use lib.Seq.{drop-drop}
+use Rattle.definitions.specs.declared.Refusal.{Refusal}
 use Rattle.definitions.specs.Lists.{joined}
 use Rattle.definitions.specs.Refusal.{refuse, accept, needed}
 use Rattle.definitions.specs.Walk.{stop, bad, item}
@@ -49,8 +50,8 @@ module _ (o : Options) (s : List ℕ) where
     pub sum-stop : termStep o (drop at s) ≡ stop → total ≡ fieldsLength (o .first) (metTerms o s)
     sum-stop e = none-follow (met-stop (termStep o) (drop at s) e)
 
-    pub sum-bad : (n k : ℕ) → termStep o (drop at s) ≡ bad n k → total ≡ fieldsLength (o .first) (metTerms o s)
-    sum-bad n k e = none-follow (met-bad (termStep o) (drop at s) n k e)
+    pub sum-bad : (r : Refusal) → termStep o (drop at s) ≡ bad r → total ≡ fieldsLength (o .first) (metTerms o s)
+    sum-bad r e = none-follow (met-bad (termStep o) (drop at s) r e)
 
     module _ (t : Term) (n : ℕ) (e : termStep o (drop at s) ≡ item t n) where
       pub term-within : at + n ≤ length s

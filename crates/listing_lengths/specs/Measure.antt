@@ -1,4 +1,5 @@
--- What the walk that measures a file counts of its text, with no table: the lengths of its house lines, up to the limit of a needed number.
+-- What the walk that measures a file counts of its text, with no table: the lengths of its house lines, up to the limit
+-- of a needed number.
 use Prim.Native.Nat.{ℕ}
 use mathlib.Core.List.{List}
 use lib.ListN.{length}

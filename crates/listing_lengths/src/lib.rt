@@ -1,5 +1,6 @@
-// The length that a file's house lines need (01, "Examples on each side"), from its text alone: a walk over its statements that measures each line, so that nothing lent need be changed before it is
-// known whether the lines fit. specs/Measure.antt says what is counted. Assumes nothing.
+// The length that a file's house lines need (01, "Examples on each side"), from its text alone: a walk over its
+// statements that measures each line, so that nothing lent need be changed before it is known whether the lines fit.
+// specs/Measure.antt says what is counted. Assumes nothing.
 mod statement;
 
 use definitions::FILE_LIMIT;
@@ -39,10 +40,10 @@ fn measure_statements(s: &[u8], options: Options) -> Measured
             StatementRead::End => {
                 return Measured::Lines(Sizes { rows, terms, lines });
             }
-            StatementRead::Refused { number, blanks } => {
+            StatementRead::Refused(refusal) => {
                 return Measured::Refused(Refusal {
-                    number,
-                    place: (at + blanks) as u64,
+                    number: refusal.number,
+                    place: at as u64 + refusal.place,
                 });
             }
             StatementRead::Line { entry, taken } => {
@@ -69,7 +70,8 @@ fn measure_file(s: &[u8], options: Options) -> Measured
     measure_statements(s, options)
 }
 
-// The whole text, for columns with room for so many rows and terms: of the head and the lines, or of a refusal, which may be "9, then 10".
+// The whole text, for columns with room for so many rows and terms: of the head and the lines, or of a refusal, which
+// may be "9, then 10".
 pub fn listing_length(s: &[u8], options: Options, rows: usize, terms: usize) -> u64
     ensures { λ r. ⌜ ((t : Table) → rowRoom t ≡ rows → termRoom t ≡ terms → r ≡ needed (length (listing (options .first) (reading options (now (s .entry)) t)))) ⌝ }
 {

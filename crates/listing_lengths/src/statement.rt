@@ -1,4 +1,5 @@
-// The line of one statement, measured from its text: the fields of the terms that a walk over it meets, and the words around them. Assumes nothing.
+// The line of one statement, measured from its text: the fields of the terms that a walk over it meets, and the words
+// around them. Assumes nothing.
 use beginnings::MinRead;
 use definitions::Beginning;
 use definitions::Entry;
@@ -11,7 +12,8 @@ ghost use Rattle.statements.specs.Met.{goalMet, statementMet};
 ghost use Rattle.house_lengths.specs.Lengths.{lineLength};
 ghost use Rattle.listing_lengths.specs.Measure.{fieldsLength};
 
-// The fields of the terms that stand at the front of s. A literal that was read has a file number, so each has a length.
+// The fields of the terms that stand at the front of s. A literal that was read has a file number, so each has a
+// length.
 fn sum_length(s: &[u8], options: Options) -> u64
     ensures { λ r. ⌜ r ≡ fieldsLength (options .first) (metTerms options (now (s .entry))) ⌝ }
 {
@@ -52,7 +54,7 @@ fn goal_length(s: &[u8], options: Options) -> u64
 fn fields_length(s: &[u8], options: Options) -> u64
     ensures { λ r. ⌜ r ≡ fieldsLength (options .first) (statementMet options (now (s .entry))) ⌝ }
 {
-    let k = symbols::blanks_of(s);
+    let k = blanks::blanks_of(s);
     if s.len() <= k {
         return 0;
     }

@@ -1,4 +1,5 @@
--- What was read is listed: a table that was read holds the rows that were read, so its house lines are those of the rows.
+-- What was read is listed: a table that was read holds the rows that were read, so its house lines are those of the
+-- rows.
 use mathlib.Core.Path.{_≡_, refl, sym, ap, _∙_}
 use mathlib.Core.Bool.{Bool, true, false, cond}
 use mathlib.Core.List.{List}

@@ -1,5 +1,5 @@
-// A file read into lent columns, and what was read, or the refusal, listed into a lent output, where its house lines fit (01, "Examples on each side"). specs/ListsRead.antt says what is promised.
-// Assumes nothing.
+// A file read into lent columns, and what was read, or the refusal, listed into a lent output, where its house lines
+// fit (01, "Examples on each side"). specs/ListsRead.antt says what is promised. Assumes nothing.
 use definitions::Counted;
 use definitions::Options;
 ghost use Rattle.definitions.specs.Table.{table};

@@ -1,4 +1,5 @@
--- Laws on file numbers, indexes and codes: when each is there and when 5 is given, and how the conversions of src/lib.rt fit together.
+-- Laws on file numbers, indexes and codes: when each is there and when 5 is given, and how the conversions of
+-- src/lib.rt fit together.
 use Prim.Native.Nat.{ℕ, _+_, _-_, _≤_, _<_}
 use mathlib.Core.Path.{_≡_, sym, ap, _∙_}
 use mathlib.Core.Bool.{Bool, and-false}

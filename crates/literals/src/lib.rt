@@ -1,5 +1,5 @@
-// File numbers, variables and literals, as in the Rust's types.rs. "File number, index and code may not be passed one for
-// another" (01): each is a type of its own, and the functions here are the only ways between them. Where one has no
+// File numbers, variables and literals, as in the Rust's types.rs. "File number, index and code may not be passed one
+// for another" (01): each is a type of its own, and the functions here are the only ways between them. Where one has no
 // counterpart the answer is refusal 5. Assumes nothing.
 use definitions::FILE_NUMBER_LIMIT;
 use definitions::INDEX_LIMIT;

@@ -1,4 +1,5 @@
--- What the first walk says of a row is what the definitions say: its refusals in their order, or what its line comes to.
+-- What the first walk says of a row is what the definitions say: its refusals in their order, or what its line comes
+-- to.
 use mathlib.Core.Path.{_≡_, refl, sym, ap, ap₂, _∙_}
 use mathlib.Core.Bool.{Bool, true, false, cond, not, _&&_}
 use mathlib.Core.List.{List}
@@ -14,15 +15,15 @@ use Rattle.definitions.specs.Table.{indexed, termsOn}
 use Rattle.definitions.specs.Write.{rowText, printed, line, itemText, weighs, hasTerms, numbered, bounded, rowAllowed}
 use Rattle.definitions.specs.Back.{linesBack}
 use Rattle.definitions.specs.declared.Mode.{Mode}
+use Rattle.definitions.specs.declared.Kind.{Kind}
+use Rattle.definitions.specs.declared.Kind.the-variants.{AtLeast as atLeast, AtMost as atMost, Equal as equal, Objective as objective}
 use Rattle.columns.proofs.Terms.{terms-count}
-use Rattle.printed.specs.declared.terms.Style.{Style}
+use Rattle.shown.specs.declared.terms.Style.{Style}
 use Rattle.measures.specs.declared.terms.Tally.{Tally}
-use Rattle.printed.specs.declared.kinds.Kind as code
-use Rattle.printed.specs.declared.kinds.Kind.the-variants.{AtLeast, AtMost, Equal, Objective}
 use Rattle.printed.specs.declared.kinds.Shape.{Shape}
-use Rattle.printed.specs.Kinds.{kindOf, styleOf}
-use Rattle.printed.specs.Terms.{ownTerm, ownTerms, termsText}
-use Rattle.printed.specs.Sums.{noSums, summed}
+use Rattle.printed.specs.Kinds.{styleOf}
+use Rattle.shown.specs.Terms.{ownTerm, ownTerms, termsText}
+use Rattle.shown.specs.Sums.{noSums, summed}
 use Rattle.measures.specs.Tallies.{noTally, tallied}
 use Rattle.printed.specs.Bounds.{printedBound}
 use Rattle.printed.specs.Rows.{rowOn}
@@ -67,11 +68,11 @@ none-is : (n : ℕ) → eqb n 0 ≡ not (leb 1 n)
 none-is zero = refl
 none-is (suc n) = rw (ne-eqb (suc n) 0 (λ e. omega arith), le-leb 1 (suc n) (omega arith))
 
-lacks-is : (k : code.Kind) (ts : List Term) (n : ℕ) → length ts ≡ n → lacksTerms k n ≡ not (hasTerms (kindOf k) ts)
-lacks-is AtLeast ts n e = rw (← e) (none-is (length ts))
-lacks-is AtMost ts n e = rw (← e) (none-is (length ts))
-lacks-is Equal ts n e = rw (← e) (none-is (length ts))
-lacks-is Objective ts n e = refl
+lacks-is : (k : Kind) (ts : List Term) (n : ℕ) → length ts ≡ n → lacksTerms k n ≡ not (hasTerms k ts)
+lacks-is atLeast ts n e = rw (← e) (none-is (length ts))
+lacks-is atMost ts n e = rw (← e) (none-is (length ts))
+lacks-is equal ts n e = rw (← e) (none-is (length ts))
+lacks-is objective ts n e = refl
 
 module _ (shape : Shape) (ws : List ℤ) (cs : List ℕ) (long : length ws ≡ length cs) (m : Mode) where
   abbrev style : Style
@@ -126,7 +127,7 @@ module _ (shape : Shape) (ws : List ℤ) (cs : List ℕ) (long : length ws ≡ l
           sums-are,
           bound-by-sums (shape .kind) (shape .bound) terms style refl m refl w,
         )
-        (by (hasTerms (kindOf (shape .kind)) terms) (numbered (m .first) terms) refl)
+        (by (hasTerms (shape .kind) terms) (numbered (m .first) terms) refl)
       where
         by : (h n : Bool) → numbered (m .first) terms ≡ n
             → cond (not h) (refuse 13)

@@ -1,4 +1,5 @@
--- The public function has one possible answer for each input: two that its contract allows are equal. It changes nothing that it is lent.
+-- The public function has one possible answer for each input: two that its contract allows are equal. It changes
+-- nothing that it is lent.
 use mathlib.Core.Path.{_≡_, sym, _∙_}
 use Rattle.definitions.proofs.Truths.{never}
 use Rattle.measures.specs.Walks.{saidMeasure}

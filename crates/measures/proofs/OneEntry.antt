@@ -16,8 +16,7 @@ use Rattle.definitions.specs.Write.{weighs, say, line, itemText, oneLine, rowAl
 use Rattle.definitions.specs.declared.Mode.{Mode}
 use Rattle.printed.specs.declared.kinds.Shape.{Shape}
 use Rattle.printed.specs.declared.kinds.Sort.the-variants.{Comment, Row}
-use Rattle.printed.specs.Kinds.{kindOf}
-use Rattle.printed.specs.Terms.{ownTerms}
+use Rattle.shown.specs.Terms.{ownTerms}
 use Rattle.printed.specs.Rows.{rowOn, entryOf, onColumns}
 use Rattle.printed.proofs.Texts.{remark-length}
 use Rattle.printed.proofs.OneEntry.{part-is, own-is, itemFor}
@@ -65,9 +64,9 @@ module _ (m : Mode) (ws : List ℤ) (cs : List ℕ) (text : List ℕ) (k f n : �
       own : List Term
       own = ownTerms (s .unit) (take n (drop f ws)) (take n (drop f cs))
 
-      by : (p q : Bool) → measured m (andThen (cond (p && q) (accept (line (rowOf (kindOf (s .kind)) (s .bound) own))) (refuse 11))
+      by : (p q : Bool) → measured m (andThen (cond (p && q) (accept (line (rowOf (s .kind) (s .bound) own))) (refuse 11))
           (allowed m))
-          ≡ cond p (cond q (measured m (rowAllowed m (rowOf (kindOf (s .kind)) (s .bound) own))) (refuse 11)) (refuse 11)
+          ≡ cond p (cond q (measured m (rowAllowed m (rowOf (s .kind) (s .bound) own))) (refuse 11)) (refuse 11)
       by true true = refl
       by true false = refl
       by false q = refl

@@ -1,5 +1,5 @@
--- What the first walk counts is what the definitions ask of the row: 11 of its terms, their file numbers, the sums of their weights, the
--- length of their text.
+-- What the first walk counts is what the definitions ask of the row: 11 of its terms, their file numbers, the sums of
+-- their weights, the length of their text.
 use mathlib.Core.Path.{_≡_, refl, sym, _∙_}
 use mathlib.Core.Bool.{Bool, true, false, cond, _&&_}
 use mathlib.Core.List.{List, [], _∷_}
@@ -14,11 +14,11 @@ use Rattle.definitions.specs.Literal.{indexOf, isIndex}
 use Rattle.definitions.specs.Row.{Term}
 use Rattle.definitions.specs.Table.{indexed}
 use Rattle.definitions.specs.Write.{weighs, numbered}
-use Rattle.printed.specs.declared.terms.Style.{Style}
+use Rattle.shown.specs.declared.terms.Style.{Style}
 use Rattle.measures.specs.declared.terms.Tally.{Tally}
-use Rattle.printed.specs.Terms.{shownText, termsText}
+use Rattle.shown.specs.Terms.{shownText, termsText}
 use Rattle.printed.proofs.Tests.{and-true, and-left, and-right, and-assoc}
-use Rattle.printed.specs.Sums.{summed}
+use Rattle.shown.specs.Sums.{summed}
 use Rattle.measures.specs.Tallies.{hasNumber, tallyWith, tallied}
 
 -- ---- 11, or all terms counted

@@ -12,14 +12,14 @@ use Rattle.definitions.specs.Refusal.{refuse, accept, needed}
 use Rattle.definitions.specs.Literal.{indexOf, isIndex, fileNumber}
 use Rattle.definitions.specs.Row.{Term, term}
 use Rattle.definitions.specs.Write.{isAccepted}
-use Rattle.printed.specs.declared.terms.Style.{Style}
-use Rattle.printed.specs.declared.terms.Shown.{Shown}
-use Rattle.printed.specs.declared.sums.Sums.{Sums}
-use Rattle.printed.specs.Terms.{ownTerm, ownTerms, Shows, termWords, shownText}
-use Rattle.printed.specs.Sums.{sumsWith}
+use Rattle.shown.specs.declared.terms.Style.{Style}
+use Rattle.shown.specs.declared.terms.Shown.{Shown}
+use Rattle.shown.specs.declared.sums.Sums.{Sums}
+use Rattle.shown.specs.Terms.{ownTerm, ownTerms, Shows, termWords, shownText}
+use Rattle.shown.specs.Sums.{sumsWith}
 use Rattle.printed.proofs.Tests.{and-false, and-true, and-right}
-use Rattle.printed.proofs.OneTerm.{spaced-words, spaced-length, shown-falls}
-use Rattle.printed.proofs.AllTerms.{own-from, own-end}
+use Rattle.shown.proofs.OneTerm.{spaced-words, spaced-length, shown-falls}
+use Rattle.shown.proofs.AllTerms.{own-from, own-end}
 use Rattle.measures.specs.declared.terms.Tally.{Tally}
 use Rattle.measures.specs.Tallies.{noTally, lengthWith, shownNumber, tallyShown, lawfulShown, hasNumber, tallyWith, lawful, tallied}
 
@@ -85,7 +85,7 @@ module _ {s : Style} {ws : List ℤ} {cs : List ℕ} {i : ℕ} {a : Tally} (g : 
     here = ownTerm (s .unit) (term (getD ws i (pos 0)) (getD cs i 0))
 
     next : ownTerms (s .unit) (drop i ws) (drop i cs) ≡ here ∷ ownTerms (s .unit) (drop (i + 1) ws) (drop (i + 1) cs)
-    next = own-from (s .unit) ws cs i long h
+    next = own-from (s .unit) ws cs i (omega (arith, long)) h
 
     module _ {x : Shown} (x-is : Shows s here x) where
       pub tallying-refused : lawfulShown x ≡ false → refuse 11 ≡ tallied s noTally (ownTerms (s .unit) ws cs)
@@ -100,4 +100,4 @@ module _ {s : Style} {ws : List ℤ} {cs : List ℕ} {i : ℕ} {a : Tally} (g : 
 
   pub tallying-all : length cs ≤ i → accept a ≡ tallied s noTally (ownTerms (s .unit) ws cs)
   unfolding tallied
-  tallying-all h = rw (own-end (s .unit) ws cs i long h) at (g .left)
+  tallying-all h = rw (own-end (s .unit) ws cs i (omega (arith, long))) at (g .left)

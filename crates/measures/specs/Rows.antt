@@ -10,11 +10,10 @@ use Rattle.definitions.specs.Bytes.{minText}
 use Rattle.definitions.specs.Row.{Row}
 use Rattle.definitions.specs.Table.{indexed}
 use Rattle.definitions.specs.Write.{closed, offsetText, comparisonText, Item, itemText, weighs, rowAllowed}
-use Rattle.definitions.specs.Back.{offsetLine, linesBack, termsBack}
+use Rattle.definitions.specs.Back.{isGoal, offsetLine, linesBack, termsBack}
 use Rattle.definitions.specs.declared.Mode.{Mode}
-use Rattle.printed.specs.declared.kinds.Kind.{Kind}
+use Rattle.definitions.specs.declared.Kind.{Kind}
 use Rattle.printed.specs.declared.kinds.Shape.{Shape}
-use Rattle.printed.specs.Kinds.{kindOf, isObjective}
 use Rattle.printed.specs.Bounds.{printedBound}
 use Rattle.printed.specs.Rows.{operatorText}
 use Rattle.measures.specs.declared.terms.Tally.{Tally}
@@ -22,7 +21,8 @@ use Rattle.measures.specs.declared.rows.Measured as code
 use Rattle.measures.specs.declared.rows.Measured.the-variants.{Is, Refused}
 use Rattle.measures.specs.declared.rows.Extent.{Extent}
 
--- what an item comes to: the length of its text, up to the limit of a needed number, and the lines and terms that come back of it
+-- what an item comes to: the length of its text, up to the limit of a needed number, and the lines and terms that come
+-- back of it
 abbrev pub extentOf : Mode → Item → Extent
 extentOf m i = record { length = needed (length (itemText m i)); lines = linesBack m i; terms = termsBack i }
 
@@ -40,15 +40,15 @@ saidMeasured (Refused n) = refuse n
 -- ---- what stands around the terms
 
 abbrev pub frameText : Kind → ℤ → List ℕ
-frameText k z = cond (isObjective k) (minText ++ (closed ++ offsetText z)) (comparisonText (operatorText k) z)
+frameText k z = cond (isGoal k) (minText ++ (closed ++ offsetText z)) (comparisonText (operatorText k) z)
 
 abbrev pub frameLines : Kind → ℤ → ℕ
-frameLines k z = 1 + offsetLine (kindOf k) z
+frameLines k z = 1 + offsetLine k z
 
 -- ---- the order of refusals, by what is counted of the terms
 
 abbrev pub lacksTerms : Kind → ℕ → Bool
-lacksTerms k n = not (isObjective k) && eqb n 0
+lacksTerms k n = not (isGoal k) && eqb n 0
 
 -- of n terms, whose texts are of a length
 abbrev pub framed : Kind → ℕ → ℕ → Checked ℤ → Checked Extent

@@ -1,5 +1,5 @@
--- What the first walk counts of a row's terms, term by term: the sums of weights up to a cap, whether each has a file number, and the
--- length of their text.
+-- What the first walk counts of a row's terms, term by term: the sums of weights up to a cap, whether each has a file
+-- number, and the length of their text.
 use Prim.Native.Nat.{ℕ, _+_}
 use mathlib.Core.Bool.{Bool, true, false, cond, _&&_}
 use mathlib.Core.List.{List, [], _∷_}
@@ -9,10 +9,10 @@ use Rattle.definitions.specs.Refusal.{Checked, refuse, accept, needed}
 use Rattle.definitions.specs.Literal.{indexOf, isIndex, fileNumber}
 use Rattle.definitions.specs.Row.{Term}
 use Rattle.definitions.specs.Write.{isAccepted}
-use Rattle.printed.specs.declared.terms.Style.{Style}
-use Rattle.printed.specs.declared.terms.Shown.{Shown}
-use Rattle.printed.specs.Terms.{fallen, termWords, shownText}
-use Rattle.printed.specs.Sums.{noSums, sumsWith}
+use Rattle.shown.specs.declared.terms.Style.{Style}
+use Rattle.shown.specs.declared.terms.Shown.{Shown}
+use Rattle.shown.specs.Terms.{fallen, termWords, shownText}
+use Rattle.shown.specs.Sums.{noSums, sumsWith}
 use Rattle.measures.specs.declared.terms.Tally.{Tally}
 use Rattle.measures.specs.declared.terms.Tallied as code
 use Rattle.measures.specs.declared.terms.Tallied.the-variants.{Is, Refused}

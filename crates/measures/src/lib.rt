@@ -1,5 +1,5 @@
-// The first of two walks over rows that are to be written (01, "The lines written"): it checks all rows and counts the length of their lines, before a byte is
-// written. Assumes nothing.
+// The first of two walks over rows that are to be written (01, "The lines written"): it checks all rows and counts the
+// length of their lines, before a byte is written. Assumes nothing.
 mod entries;
 mod rows;
 mod terms;

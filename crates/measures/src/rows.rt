@@ -1,11 +1,12 @@
-// One row that is no comment: its refusal, or the length of its line and how many lines and terms come back of it. Assumes nothing.
+// One row that is no comment: its refusal, or the length of its line and how many lines and terms come back of it.
+// Assumes nothing.
 use crate::terms::Tallied;
 use crate::terms::Tally;
 use crate::terms::tally_terms;
+use definitions::Kind;
 use definitions::Mode;
 use lengths::add_needed;
 use printed::Bound;
-use printed::Kind;
 use printed::Shape;
 use printed::printed_bound;
 use printed::style_of;
@@ -14,7 +15,8 @@ ghost use lib.ListN.{length};
 ghost use Rattle.printed.specs.Rows.{rowOn};
 ghost use Rattle.measures.specs.Rows.{frameText, frameLines, lacksTerms, saidMeasured, countedLength, rowMeasured};
 
-// What rows come to: the length of their lines, and how many lines and terms come back where these are read; each up to the limit of a needed number.
+// What rows come to: the length of their lines, and how many lines and terms come back where these are read; each up to
+// the limit of a needed number.
 pub struct Extent {
     pub length: u64,
     pub lines: u64,

@@ -2,18 +2,19 @@
 use lengths::add_needed;
 use literals::FileNumber;
 use literals::FileNumberRead;
-use printed::Shown;
-use printed::Style;
-use printed::Sums;
-use printed::show_term;
-use printed::with_weight;
+use shown::Shown;
+use shown::Style;
+use shown::Sums;
+use shown::show_term;
+use shown::with_weight;
 ghost use mathlib.Core.Path.{_≡_};
 ghost use Prim.Native.Nat.{_+_};
 ghost use lib.ListN.{length};
-ghost use Rattle.printed.specs.Terms.{ownTerms, termWords};
+ghost use Rattle.shown.specs.Terms.{ownTerms, termWords};
 ghost use Rattle.measures.specs.Tallies.{noTally, lawfulShown, tallyShown, tallied, saidTally};
 
-// What the first walk counts of a row's terms: whether each so far has a file number, and if so the length of their text.
+// What the first walk counts of a row's terms: whether each so far has a file number, and if so the length of their
+// text.
 pub(crate) struct Tally {
     pub sums: Sums,
     pub numbered: bool,

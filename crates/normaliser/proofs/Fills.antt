@@ -16,14 +16,15 @@ use Rattle.definitions.specs.Normal.{normalTerm, normal, normalIn}
 use Rattle.columns.proofs.Terms.{entryAt, entries-from, entries-end, weightsAt, literalsAt, terms-at, weights-at-count}
 use Rattle.columns.proofs.Terms.{literals-at-count, terms-at-count}
 use Rattle.columns.specs.Kinds.{readKind}
-use Rattle.normaliser.specs.Parts.{weightRises, shiftBy, normalOf}
-use Rattle.normaliser.specs.Fill.{TermsFilled, TermsReady, RowReady, LineFilled, RowFilled, normalRows, Ready}
+use Rattle.shifts.specs.Shifts.{weightRises, shiftBy}
+use Rattle.normal_checks.specs.Parts.{normalOf, normalRows}
+use Rattle.normal_checks.proofs.Checks.{normal-of}
+use Rattle.normal_checks.proofs.Entries.{on, normal-bound, accepted-comment, ReadRow, accepted-row, kind-kept, count-kept}
+use Rattle.normaliser.specs.Fill.{TermsFilled, TermsReady, RowReady, LineFilled, RowFilled, Ready}
 use Rattle.normaliser.specs.declared.fill.Filled.{Filled}
 use Rattle.definitions.proofs.Columns.{joined-append, terms-snoc, rest-of, part-back, filled-none, Lengths, filled-lengths, filled-more}
 use Rattle.definitions.proofs.Columns.{Begins, begins-length, Passed, passed-none, passed-all, passed-more, Next, passed-next}
 use Rattle.definitions.proofs.Columns.{passed-begins}
-use Rattle.normaliser.proofs.Checks.{normal-of}
-use Rattle.normaliser.proofs.Entries.{on, normal-bound, accepted-comment, ReadRow, accepted-row, kind-kept, count-kept}
 
 -- ---- one row
 

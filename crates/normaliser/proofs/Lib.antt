@@ -1,7 +1,4 @@
-pub mod Rises
-pub mod Entries
 pub mod NormalTerms
-pub mod Checks
 pub mod Fills
 pub mod Answers
 pub mod Meant

@@ -1,6 +1,6 @@
--- What an accepted answer means. The rows of the table lent are lines; the first rows of the table left are those lines made
--- normal, one for one. For every assignment each constraint holds exactly where it held and each objective has the value that it
--- had; no weight is below 0; and normalising what is left would change nothing more.
+-- What an accepted answer means. The rows of the table lent are lines; the first rows of the table left are those lines
+-- made normal, one for one. For every assignment each constraint holds exactly where it held and each objective has the
+-- value that it had; no weight is below 0; and normalising what is left would change nothing more.
 use Prim.Native.Nat.{ℕ}
 use mathlib.Core.Path.{_≡_, refl, sym, ap, ap₂, _∙_}
 use mathlib.Core.Bool.{Bool, true, false, cond, _&&_}
@@ -12,7 +12,9 @@ use lib.ListN.{length, take, length-map, length-append}
 use Rattle.definitions.specs.Lists.{joined, AllOf}
 use Rattle.definitions.specs.Limits.{weightLimit, inI64}
 use Rattle.definitions.specs.Refusal.{Checked, refuse, accept}
-use Rattle.definitions.specs.Row.{Kind, atLeast, atMost, equal, objective, Line, comment, row, termsOf, sizes}
+use Rattle.definitions.specs.Row.{Line, comment, row, termsOf, sizes}
+use Rattle.definitions.specs.declared.Kind.{Kind}
+use Rattle.definitions.specs.declared.Kind.the-variants.{AtLeast as atLeast, AtMost as atMost, Equal as equal, Objective as objective}
 use Rattle.definitions.specs.Table.{Table, table, Outcome, refused, accepted, allTerms, filled, totalsOf, counted, after, entries}
 use Rattle.definitions.specs.Table.{indexed, termsAt, inColumn, Sort, remark, clause, unknown, weighted, cardinality, sortOf}
 use Rattle.definitions.specs.Table.{lineBy, lineIn, andThen, rowByRow}

@@ -1,5 +1,5 @@
--- The public entry has one possible answer for each input, and leaves one content in each output column: two that its contract
--- allows are equal. The columns lent to be read are not changed.
+-- The public entry has one possible answer for each input, and leaves one content in each output column: two that its
+-- contract allows are equal. The columns lent to be read are not changed.
 use mathlib.Core.Path.{_≡_, sym, _∙_}
 use denote.Ref.{now}
 use Rattle.definitions.specs.Table.{table}

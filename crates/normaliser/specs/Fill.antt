@@ -8,9 +8,9 @@ use Rattle.definitions.specs.Lists.{over}
 use Rattle.definitions.specs.Limits.{weightLimit}
 use Rattle.definitions.specs.Refusal.{Checked, accept}
 use Rattle.definitions.specs.Row.{Term, term, weightOf, literalOf, Line, termsOf}
-use Rattle.definitions.specs.Table.{Table, rowRoom, termRoom, Outcome, accepted, firstIn, boundIn, allTerms, entries, rowByRow}
-use Rattle.definitions.specs.Normal.{normalIn}
+use Rattle.definitions.specs.Table.{Table, rowRoom, termRoom, accepted, firstIn, boundIn, allTerms}
 use Rattle.columns.specs.Parts.{weightSizes}
+use Rattle.normal_checks.specs.Parts.{normalRows}
 use Rattle.normaliser.specs.declared.fill.NormalTerm.{NormalTerm}
 use Rattle.normaliser.specs.declared.fill.Filled.{Filled}
 
@@ -52,9 +52,6 @@ abbrev pub RowFilled : Checked Line → ℕ → List ℤ → List ℕ → Filled
 RowFilled x m w₀ l₀ r w l = (y : Line) → x ≡ accept y → LineFilled y m w₀ l₀ r w l
 
 -- ---- rows that are all accepted, and room for them
-
-abbrev pub normalRows : Table → Outcome (List Line)
-normalRows t = rowByRow (normalIn t) 0 (entries t)
 
 pub record Ready (t o : Table) : Type 0 where
   pub given : List Line

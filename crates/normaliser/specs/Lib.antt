@@ -1,5 +1,3 @@
-pub mod Parts
-pub mod Said
 pub mod Fill
 pub mod Normalises
 pub mod Meant

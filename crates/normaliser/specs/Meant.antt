@@ -1,8 +1,11 @@
--- What a line of a table says under an assignment, and the line that normalising makes of it: the words of proofs/Meant.antt.
+-- What a line of a table says under an assignment, and the line that normalising makes of it: the words of
+-- proofs/Meant.antt.
 use Prim.Native.Nat.{ℕ}
 use mathlib.Core.Bool.{Bool}
 use lib.IntN.{ℤ}
-use Rattle.definitions.specs.Row.{Kind, atLeast, atMost, equal, objective, Line, comment, row}
+use Rattle.definitions.specs.Row.{Line, comment, row}
+use Rattle.definitions.specs.declared.Kind.{Kind}
+use Rattle.definitions.specs.declared.Kind.the-variants.{AtLeast as atLeast, AtMost as atMost, Equal as equal, Objective as objective}
 use Rattle.definitions.specs.Meaning.{Assignment, holds, valueOf}
 use Rattle.definitions.specs.Normal.{normal}
 

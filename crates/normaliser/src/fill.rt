@@ -1,5 +1,5 @@
-// The second walk over rows that are all accepted, into columns that have room: what the first walk counted is filled, "packed row after row". Each function
-// asks for just that, so all are the crate's own. Assumes nothing.
+// The second walk over rows that are all accepted, into columns that have room: what the first walk counted is filled,
+// "packed row after row". Each function asks for just that, so all are the crate's own. Assumes nothing.
 use definitions::COMMENT;
 use literals::Lit;
 ghost use mathlib.Core.Path.{_≡_};
@@ -10,8 +10,8 @@ ghost use Rattle.definitions.specs.Limits.{weightLimit};
 ghost use Rattle.definitions.specs.Row.{Line};
 ghost use Rattle.definitions.specs.Table.{table, termsOn, accepted, filled};
 ghost use Rattle.definitions.specs.Normal.{normalBy, normalTerm};
-ghost use Rattle.normaliser.specs.Parts.{normalOf};
-ghost use Rattle.normaliser.specs.Fill.{saidTerm, TermsReady, TermsFilled, RowReady, RowFilled, normalRows, Ready};
+ghost use Rattle.normal_checks.specs.Parts.{normalOf, normalRows};
+ghost use Rattle.normaliser.specs.Fill.{saidTerm, TermsReady, TermsFilled, RowReady, RowFilled, Ready};
 
 // A term: its weight and its literal.
 pub struct NormalTerm {
@@ -86,7 +86,7 @@ fn fill_row(
         outweights,
         outliterals,
     );
-    let shift = crate::check::shift_of(kind, &weights[first..end]);
+    let shift = shifts::shift_of(kinds::read_kind(kind), &weights[first..end]);
     Filled {
         first: term,
         bound: bound + shift,

@@ -1,7 +1,6 @@
-// The normaliser (01, "Normalising and evaluating"): every row of a table, normal, into lent columns. Two walks over the rows, one to check and count, one to
-// fill. Every table gets an answer; a refused call changes nothing. specs/Normalises.antt says what the entry
-// promises. Assumes nothing.
-mod check;
+// The normaliser (01, "Normalising and evaluating"): every row of a table, normal, into lent columns. Two walks over
+// the rows: crates/normal_checks checks and counts, fill.rt fills. Every table gets an answer; a refused call changes
+// nothing. specs/Normalises.antt says what the entry promises. Assumes nothing.
 mod fill;
 
 use definitions::Counted;
@@ -28,7 +27,7 @@ pub fn normalise(
         (table (now (outkinds .entry)) (now (outfirsts .entry)) (now (outcounts .entry)) (now (outbounds .entry)) (now (outweights .entry)) (now (outliterals .entry))) r
         (table (now (outkinds .exit)) (now (outfirsts .exit)) (now (outcounts .exit)) (now (outbounds .exit)) (now (outweights .exit)) (now (outliterals .exit))) ⌝ }
 {
-    match check::measure(
+    match normal_checks::measure_normal(
         kinds,
         firsts,
         counts,

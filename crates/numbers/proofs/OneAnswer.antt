@@ -1,4 +1,5 @@
--- Each public function has one possible answer for each input: two that its contract allows are equal. None changes what it is lent.
+-- Each public function has one possible answer for each input: two that its contract allows are equal. None changes
+-- what it is lent.
 use mathlib.Core.Path.{_≡_, refl, sym, _∙_}
 use Prim.Native.Nat.{ℕ}
 use native.Mathlib.Omega.{arith}

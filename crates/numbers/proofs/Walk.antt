@@ -10,6 +10,7 @@ use lib.Dec.{lit<, eqb}
 use lib.ListN.{length, getD, take, drop, drop-of-length-le, length-drop}
 use lib.Seq.{drop-cons, take-suc, length-take-le, take-all}
 use types.Run.{OneOf}
+use Rattle.definitions.specs.Refusal.{fault}
 use Rattle.definitions.specs.Bytes.{plus, minus}
 use Rattle.definitions.specs.Reader.{none, got}
 use Rattle.definitions.specs.Number.{leading, valueOn, value, signed, ended, number}
@@ -83,10 +84,10 @@ module _ (negative : Bool) (k : ℕ) (s : List ℕ) (r : Run) (e : r ≡ runOf s
   sized : r .size ≡ min (value (leading s)) cap
   sized = rw e
 
-  pub run-none : r .count ≡ 0 → none 3 ≡ ended negative k (leading s)
+  pub run-none : r .count ≡ 0 → none (fault 3) ≡ ended negative k (leading s)
   run-none z = sym (ended-none negative k (leading s) (sym counted ∙ z))
 
-  pub run-beyond : most negative < r .size → none 3 ≡ ended negative k (leading s)
+  pub run-beyond : most negative < r .size → none (fault 3) ≡ ended negative k (leading s)
   run-beyond h = sym (ended-beyond negative k (leading s) (signed-beyond negative _ (omega (arith, sized))))
 
   pub run-got : (r .count ≡ 0 → ⊥) → r .size ≤ most negative → got (signed negative (r .size)) (k + r .count) ≡ ended negative k (leading s)

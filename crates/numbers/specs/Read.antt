@@ -3,6 +3,7 @@ use Prim.Native.Nat.{ℕ, min}
 use mathlib.Core.List.{List}
 use lib.ListN.{length}
 use lib.IntN.{ℤ}
+use Rattle.definitions.specs.Refusal.{fault}
 use Rattle.definitions.specs.Reader.{Got, none, got}
 use Rattle.definitions.specs.Number.{leading, value}
 use Rattle.numbers.specs.declared.NumberRead.{NumberRead}
@@ -12,7 +13,7 @@ use Rattle.numbers.specs.declared.Run.{Run}
 -- "number missing, sign alone, or beyond 64 bits": 3
 abbrev pub said : NumberRead → Got ℤ
 said (Number z n) = got z n
-said Missing = none 3
+said Missing = none (fault 3)
 
 -- A size stops here, so that any number of digits is read. It is one more than 64 signed bits hold at either sign, so a
 -- size that stopped is beyond them,

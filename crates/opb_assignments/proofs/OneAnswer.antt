@@ -1,5 +1,5 @@
--- The call has one possible answer for each input, and leaves one content in the values and in the known words: two that its contract
--- allows are equal.
+-- The call has one possible answer for each input, and leaves one content in the values and in the known words: two
+-- that its contract allows are equal.
 use mathlib.Core.Path.{_≡_, sym, _∙_}
 use denote.Ref.{now}
 use Rattle.opb_assignments.proofs.opb_values.Reads as opb-values

@@ -6,7 +6,8 @@ use Rattle.definitions.specs.Values.{valuing, newLength, valuesAfter, knownAfte
 use Rattle.opb_assignments.specs.Answers.{lengthAnswer}
 use Rattle.opb_assignments.specs.declared.OpbLength.{OpbLength}
 
--- the block s of value lines on top of the length n, the values ws and the known words ks, which are ws′ and ks′ after the call
+-- the block s of value lines on top of the length n, the values ws and the known words ks, which are ws′ and ks′ after
+-- the call
 pub record ReadsBlock (s : List ℕ) (n : ℕ) (ws ks : List ℕ) (r : OpbLength) (ws′ ks′ : List ℕ) : Type 0 where
   pub answer : r ≡ lengthAnswer (newLength n (valuing s n ws ks))
   pub values : ws′ ≡ valuesAfter (valuing s n ws ks) ws

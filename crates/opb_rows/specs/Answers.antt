@@ -1,5 +1,6 @@
--- What an answer is, for a refusal and for what a call found. `refusal` is 0 where the call accepted, else the refusal's number, with its
--- place; then every other number is 0. No refusal has the number 0 (proofs/ZeroAccepts.antt).
+-- What an answer is, for a refusal and for what a call found. `refusal` is 0 where the call accepted, else the
+-- refusal's number, with its place; then every other number is 0. No refusal has the number 0
+-- (proofs/ZeroAccepts.antt).
 use Prim.Native.Nat.{ℕ}
 use mathlib.Core.Bool.{Bool, cond}
 use lib.IntN.{pos}

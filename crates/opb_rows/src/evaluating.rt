@@ -1,13 +1,14 @@
 // One row under an assignment, with the number of ones in its words. Assumes nothing.
-use evaluator::Evaluated;
+use verdicts::Evaluated;
 ghost use mathlib.Core.Path.{_≡_};
 ghost use Rattle.definitions.specs.Table.{table};
-ghost use Rattle.evaluator.specs.Said.{saidEvaluated};
+ghost use Rattle.verdicts.specs.Said.{saidEvaluated};
 ghost use Rattle.opb_rows.specs.Answers.{truth, valueAnswer};
 ghost use Rattle.opb_rows.specs.Calls.{evaluateAnswer, evaluateKnownAnswer};
 
-// A constraint's sum, with `holds` 1 or 0; or an objective's value, with `holds` 2. `ones` is the number of ones in the words. `refusal` is 0 exactly
-// where the call accepted, else the refusal's number; then `place` is its place and every other number is 0.
+// A constraint's sum, with `holds` 1 or 0; or an objective's value, with `holds` 2. `ones` is the number of ones in the
+// words. `refusal` is 0 exactly where the call accepted, else the refusal's number; then `place` is its place and every
+// other number is 0.
 #[repr(C)]
 pub struct OpbValue {
     pub refusal: u8,
@@ -29,9 +30,9 @@ pub(crate) fn value_of(found: Evaluated) -> OpbValue
     ensures { λ r. ⌜ r ≡ valueAnswer (saidEvaluated found) ⌝ }
 {
     match found {
-        Evaluated::Refused { number, place } => OpbValue {
-            refusal: number,
-            place: place as u64,
+        Evaluated::Refused(refusal) => OpbValue {
+            refusal: refusal.number,
+            place: refusal.place,
             value: 0,
             holds: 0,
             ones: 0,
@@ -70,7 +71,8 @@ pub extern "C" fn opb_evaluate(
     value_of(evaluator::evaluate(kinds, firsts, counts, bounds, weights, literals, row, words))
 }
 
-// The same where the second row of words says which variables are known; one that is not is 12, as one beyond the shorter row.
+// The same where the second row of words says which variables are known; one that is not is 12, as one beyond the
+// shorter row.
 #[no_mangle]
 pub extern "C" fn opb_evaluate_known(
     kinds: &[u8],

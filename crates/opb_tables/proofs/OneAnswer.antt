@@ -1,5 +1,5 @@
--- Each call has one possible answer for each input, and leaves one content in the columns that it was lent to fill: two that its contract
--- allows are equal.
+-- Each call has one possible answer for each input, and leaves one content in the columns that it was lent to fill: two
+-- that its contract allows are equal.
 use mathlib.Core.Path.{_≡_, sym, _∙_}
 use denote.Ref.{now}
 use Rattle.definitions.specs.Table.{table}

@@ -8,9 +8,9 @@ use Rattle.definitions.specs.File.{firstAt}
 use Rattle.definitions.specs.declared.Counted.{Counted}
 use Rattle.reader.specs.Reads.{Reads}
 use Rattle.normaliser.specs.Normalises.{Normalises}
-use Rattle.opb_tables.specs.Answers.{tableAnswer}
+use Rattle.table_answers.specs.Answers.{tableAnswer}
 use Rattle.opb_tables.specs.Calls.{ReadsFile, NormalisesTable}
-use Rattle.opb_tables.specs.declared.OpbTable.{OpbTable}
+use Rattle.table_answers.specs.declared.OpbTable.{OpbTable}
 
 pub read-told : (first : ℕ) (s : List ℕ) (t t′ : Table) (r : OpbTable) (a : Counted) → Reads (firstAt first) s t a t′
     → r ≡ tableAnswer (saidCounted a) → ReadsFile first s t r t′

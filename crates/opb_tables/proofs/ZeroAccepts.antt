@@ -8,9 +8,9 @@ use Rattle.definitions.specs.Accepts.{numberOf, Tells}
 use Rattle.definitions.specs.File.{firstAt, file, reading}
 use Rattle.definitions.specs.Normal.{normalising}
 use Rattle.definitions.proofs.ZeroAccepts.{file-tells, reading-tells, normalising-tells}
-use Rattle.opb_tables.specs.Answers.{tableAnswer}
+use Rattle.table_answers.specs.Answers.{tableAnswer}
 use Rattle.opb_tables.specs.Calls.{countAnswer, ReadsFile, NormalisesTable}
-use Rattle.opb_tables.specs.declared.OpbTable.{OpbTable}
+use Rattle.table_answers.specs.declared.OpbTable.{OpbTable}
 
 number : (x : Outcome (List Line)) → tableAnswer (counted x) .refusal ≡ numberOf x
 number (refused r) = refl

@@ -5,8 +5,8 @@ use mathlib.Core.List.{List}
 use Rattle.definitions.specs.Table.{Table, counted, after}
 use Rattle.definitions.specs.File.{firstAt, file, reading}
 use Rattle.definitions.specs.Normal.{normalising}
-use Rattle.opb_tables.specs.Answers.{tableAnswer}
-use Rattle.opb_tables.specs.declared.OpbTable.{OpbTable}
+use Rattle.table_answers.specs.Answers.{tableAnswer}
+use Rattle.table_answers.specs.declared.OpbTable.{OpbTable}
 
 -- the rows and terms of the file s, whatever room there is
 abbrev pub countAnswer : ℕ → List ℕ → OpbTable

@@ -1,54 +1,20 @@
-// The library for C, tables: a file, or a table made normal, into lent columns, by C's calling convention over slices (a pointer and a length) and
-// numbers, with an answer by value. No call asks anything of what it is lent but that it is there. A refused call leaves the columns as they were,
-// an accepted one changes only the entries it counts, from the front. specs/Calls.antt says what each promises. Assumes nothing.
-use definitions::Counted;
+// The library for C, tables: a file, or a table made normal, into lent columns, by C's calling convention over slices
+// (a pointer and a length) and numbers, with an answer by value. No call asks anything of what it is lent but that it
+// is there. A refused call leaves the columns as they were, an accepted one changes only the entries it counts, from
+// the front. specs/Calls.antt says what each promises. Assumes nothing.
 use definitions::Options;
-use definitions::Totals;
+use table_answers::OpbTable;
+use table_answers::table_answer;
 ghost use mathlib.Core.Path.{_≡_};
-ghost use Rattle.definitions.specs.Answers.{saidCounted};
 ghost use Rattle.definitions.specs.Table.{table};
-ghost use Rattle.opb_tables.specs.Answers.{tableAnswer};
 ghost use Rattle.opb_tables.specs.Calls.{countAnswer, ReadsFile, NormalisesTable};
-
-// How many rows and terms were counted or filled. `refusal` is 0 exactly where the call accepted, else the refusal's number; then `place` is its
-// place and every other number is 0.
-#[repr(C)]
-pub struct OpbTable {
-    pub refusal: u8,
-    pub place: u64,
-    pub rows: u64,
-    pub terms: u64,
-}
-
-// What a callee answers, as C has it.
-fn table_answer(found: Counted) -> OpbTable
-    ensures { λ r. ⌜ r ≡ tableAnswer (saidCounted found) ⌝ }
-{
-    match found {
-        Counted::Refused(why) => OpbTable {
-            refusal: why.number,
-            place: why.place,
-            rows: 0,
-            terms: 0,
-        },
-        Counted::Table(totals) => {
-            let Totals { rows, terms } = totals;
-            OpbTable {
-                refusal: 0,
-                place: 0,
-                rows: rows as u64,
-                terms: terms as u64,
-            }
-        }
-    }
-}
 
 // The rows and terms of a file, so that columns for them can be had. Refusals 1 to 8; 9 and 10 ask for columns.
 #[no_mangle]
 pub extern "C" fn opb_count(file: &[u8], first: u32) -> OpbTable
     ensures { λ r. ⌜ r ≡ countAnswer first (now (file .entry)) ⌝ }
 {
-    table_answer(reader::count_file(file, Options { first }))
+    table_answer(counts::count_file(file, Options { first }))
 }
 
 // "Reader's order: 1; then statement by statement .. 2 to 7 ..; 8 ..; 9, then 10, once the whole file has read well."

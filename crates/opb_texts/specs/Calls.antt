@@ -16,7 +16,8 @@ use Rattle.opb_texts.specs.declared.OpbText.{OpbText}
 abbrev pub modeAt : ℕ → ℕ → Mode
 modeAt first plain = record { first = first; plain = not (eqb plain 0) }
 
--- the rows of the table t, with the comments' text, as the lines of a file into the output o, which is o′ after the call
+-- the rows of the table t, with the comments' text, as the lines of a file into the output o, which is o′ after the
+-- call
 pub record WritesLines (first plain : ℕ) (t : Table) (text o : List ℕ) (r : OpbText) (o′ : List ℕ) : Type 0 where
   pub answer : r ≡ textAnswer (writing (modeAt first plain) t text (length o))
   pub after : o′ ≡ outputAfter (writing (modeAt first plain) t text (length o)) o

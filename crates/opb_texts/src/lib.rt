@@ -1,7 +1,7 @@
-// The library for C, texts: the rows of a table as the lines of an OPB file or as house lines, from the front of a lent output, by C's calling
-// convention over slices (a pointer and a length) and numbers, with an answer by value. No call asks anything of what it is lent but that it is
-// there. A refused call changes no byte of the output; 14 has the length needed as its place. specs/Calls.antt says what each promises. Assumes
-// nothing.
+// The library for C, texts: the rows of a table as the lines of an OPB file or as house lines, from the front of a lent
+// output, by C's calling convention over slices (a pointer and a length) and numbers, with an answer by value. No call
+// asks anything of what it is lent but that it is there. A refused call changes no byte of the output; 14 has the
+// length needed as its place. specs/Calls.antt says what each promises. Assumes nothing.
 use definitions::Length;
 use definitions::Mode;
 ghost use mathlib.Core.Path.{_≡_};
@@ -10,8 +10,8 @@ ghost use Rattle.definitions.specs.Table.{table};
 ghost use Rattle.opb_texts.specs.Answers.{lengthAnswer};
 ghost use Rattle.opb_texts.specs.Calls.{WritesLines, ListsTable};
 
-// How many bytes of the output the text takes. `refusal` is 0 exactly where the call accepted, else the refusal's number; then `place` is its place and
-// the length is 0.
+// How many bytes of the output the text takes. `refusal` is 0 exactly where the call accepted, else the refusal's
+// number; then `place` is its place and the length is 0.
 #[repr(C)]
 pub struct OpbText {
     pub refusal: u8,
@@ -37,7 +37,8 @@ fn text_answer(found: Length) -> OpbText
     }
 }
 
-// The lines of an OPB file, with `text` as the bytes that comment rows point into. `plain` other than 0 is no-negated mode. 11, 15, 13, 5, 8 row by row; then 14.
+// The lines of an OPB file, with `text` as the bytes that comment rows point into. `plain` other than 0 is no-negated
+// mode. 11, 15, 13, 5, 8 row by row; then 14.
 #[no_mangle]
 pub extern "C" fn opb_write(
     kinds: &[u8],

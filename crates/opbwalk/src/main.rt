@@ -1,5 +1,7 @@
-// The listing program of 01, "Examples on each side", with a file that is walked: an OPB file on standard input, its house lines on standard output, the same as opblist's. It keeps no table: one walk
-// of steps checks and counts (`walker::count_steps`), a second prints each statement's line as it is met. What cannot be read or printed is said on standard error.
+// The listing program of 01, "Examples on each side", with a file that is walked: an OPB file on standard input, its
+// house lines on standard output, the same as opblist's. It keeps no table: one walk of steps checks and counts
+// (`walker::count_steps`), a second prints each statement's line as it is met. What cannot be read or printed is said
+// on standard error.
 use definitions::Counted;
 use definitions::Entry;
 use definitions::Length;
@@ -116,7 +118,7 @@ fn print_statement(
     out: &mut [u8],
 ) -> bool {
     let options = Options { first: 1 };
-    match walker::fill_at(file, options, at, weights, literals) {
+    match fills::fill_at(file, options, at, weights, literals) {
         Length::Refused(_) => {
             streams::say(b"opbwalk: the terms do not fit their columns\n");
             false

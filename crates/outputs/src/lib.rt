@@ -25,7 +25,8 @@ fn has_room(n: usize, at: usize, room: usize) -> bool
     n <= room - at
 }
 
-// The four digits of a number below 10,000 as bytes, the first one lowest: pairs of digits, then digits, two of each at once.
+// The four digits of a number below 10,000 as bytes, the first one lowest: pairs of digits, then digits, two of each at
+// once.
 fn four_digits(m: u32) -> u32
     requires { ⌜ m < 10_000 ⌝ }
     ensures { λ r. ⌜ r ≡ fourBytes m ⌝ }

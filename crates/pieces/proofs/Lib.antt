@@ -1,3 +1,2 @@
-pub mod Literals
 pub mod Terms
 pub mod OneAnswer

@@ -1,34 +1,24 @@
--- Each public function has one possible answer for each input: two that its contract allows are equal. None changes what it is lent.
-use Prim.Native.Nat.{ℕ}
+-- Each public function has one possible answer for each input: two that its contract allows are equal. None changes
+-- what it is lent.
 use mathlib.Core.Path.{_≡_, refl, sym, ap, _∙_}
 use lib.IntN.{ℤ}
+use Rattle.definitions.specs.Refusal.{faultAt, faultOf}
 use Rattle.definitions.specs.Row.{Term, term}
 use Rattle.definitions.proofs.Truths.{never}
 use Rattle.literals.specs.declared.Lit.{Lit}
-use Rattle.pieces.specs.Said.{saidLiteral, saidTerm, saidNext}
-use Rattle.pieces.specs.declared.literal.LiteralRead.{LiteralRead}
+use Rattle.literal_read.proofs.OneAnswer.{same-lit}
+use Rattle.pieces.specs.Said.{saidTerm, saidNext}
 use Rattle.pieces.specs.declared.term.TermRead.{TermRead}
 use Rattle.pieces.specs.declared.term.NextTerm.{NextTerm}
-use Rattle.pieces.specs.declared.literal.LiteralRead.the-variants as literal
 use Rattle.pieces.specs.declared.term.TermRead.the-variants as term'
 use Rattle.pieces.specs.declared.term.NextTerm.the-variants as next
-use Rattle.pieces.proofs.literal.read_literal.Reads as read-literal
 use Rattle.pieces.proofs.term.read_term.Reads as read-term
 use Rattle.pieces.proofs.term.next_term.Reads as next-term
 
 -- ---- an answer is known by what it says
 
-same-lit : (l l' : Lit) → l .0 ≡ l' .0 → l ≡ l'
-same-lit l l' e = ap (λ (n : ℕ). record { 0 = n }) e
-
 same-term : (w w' : ℤ) (l l' : Lit) → term w (l .0) ≡ term w' (l' .0) → (w ≡ w') × (l ≡ l')
 same-term w w' l l' e = (ap (λ (t : Term). t .weight) e, same-lit l l' (ap (λ (t : Term). t .code) e))
-
-pub said-literal : (r r' : LiteralRead) → saidLiteral r ≡ saidLiteral r' → r ≡ r'
-said-literal (literal.Literal l n) (literal.Literal l' n') e = let p : l ≡ l' = same-lit l l' (cc) in cc
-said-literal (literal.Literal l n) (literal.Refused k) e = never (cc)
-said-literal (literal.Refused k) (literal.Literal l' n') e = never (cc)
-said-literal (literal.Refused k) (literal.Refused k') e = cc
 
 pub said-term : (r r' : TermRead) → saidTerm r ≡ saidTerm r' → r ≡ r'
 said-term (term'.Term w l n) (term'.Term w' l' n') e = let p = same-term w w' l l' (cc) in cc (p .0, p .1)
@@ -41,16 +31,13 @@ said-next (next.Term w l n) (next.Term w' l' n') e = let p = same-term w w' l l'
 said-next (next.Term w l n) (next.Refused k) e = never (cc)
 said-next (next.Term w l n) next.Stop e = never (cc)
 said-next (next.Refused k) (next.Term w' l' n') e = never (cc)
-said-next (next.Refused k) (next.Refused k') e = cc
+said-next (next.Refused k) (next.Refused k') e = let p : faultAt 0 k ≡ faultAt 0 k' = cc in ap (λ r. next.Refused (faultOf r)) p
 said-next (next.Refused k) next.Stop e = never (cc)
 said-next next.Stop (next.Term w' l' n') e = never (cc)
 said-next next.Stop (next.Refused k') e = never (cc)
 said-next next.Stop next.Stop e = refl
 
 -- ---- the functions
-
-pub read-literal-one : (κs : _) (a : _) (r r' : _) (s s' : _) → read-literal.Post κs a r s → read-literal.Post κs a r' s' → r ≡ r'
-read-literal-one κs a r r' s s' p q = said-literal r r' (p ∙ sym q)
 
 pub read-term-one : (κs : _) (a : _) (r r' : _) (s s' : _) → read-term.Post κs a r s → read-term.Post κs a r' s' → r ≡ r'
 read-term-one κs a r r' s s' p q = said-term r r' (p ∙ sym q)

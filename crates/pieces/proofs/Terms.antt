@@ -11,6 +11,8 @@ use native.Mathlib.Omega.{arith}
 use lib.ListN.{length, getD, drop, length-drop}
 use lib.Seq.{drop-drop}
 use lib.IntN.{ℤ}
+use Rattle.definitions.specs.declared.Fault.{Fault}
+use Rattle.definitions.specs.Refusal.{fault}
 use Rattle.definitions.specs.Bytes.{classOf, begins, blanks}
 use Rattle.definitions.specs.Reader.{none, got, more, done}
 use Rattle.definitions.specs.Number.{number}
@@ -41,16 +43,16 @@ module _ (o : Options) (s : List ℕ) (k : ℕ) (is : k ≡ blanks s) where
     blanks-end-within j f = omega (arith, literal-ends-within, blanks-within (drop (k + n) s), length-drop (k + n) s)
 
   module _ (w : ℤ) where
-    pub after-weight-no-blank : k ≡ 0 → none 4 ≡ afterWeight o w s
+    pub after-weight-no-blank : k ≡ 0 → none (fault 4) ≡ afterWeight o w s
     unfolding afterWeight gap1
-    after-weight-no-blank z = sym (chain-none gap1 _ s 4 (ap someBlanks (sym is ∙ z)))
+    after-weight-no-blank z = sym (chain-none gap1 _ s (fault 4) (ap someBlanks (sym is ∙ z)))
 
     module _ (some : k ≡ 0 → ⊥) where
       gap-is : gap1 s ≡ got k k
       unfolding gap1
       gap-is = ap someBlanks (sym is) ∙ some-blanks k some
 
-      pub after-weight-no-literal : (e : ℕ) → none e ≡ literal o (drop k s) → none e ≡ afterWeight o w s
+      pub after-weight-no-literal : (e : Fault) → none e ≡ literal o (drop k s) → none e ≡ afterWeight o w s
       unfolding afterWeight
       after-weight-no-literal e q = sym (chain-got gap1 _ s k k gap-is ∙ ap (more k) (chain-none (literal o) _ (drop k s) e (sym q)))
 
@@ -65,9 +67,9 @@ module _ (o : Options) (s : List ℕ) (k : ℕ) (is : k ≡ blanks s) where
 
 -- ---- a number, and what is behind it
 module _ (o : Options) (s : List ℕ) where
-  pub weighted-missing : none 3 ≡ number s → none 3 ≡ weighted o s
+  pub weighted-missing : none (fault 3) ≡ number s → none (fault 3) ≡ weighted o s
   unfolding weighted
-  weighted-missing q = sym (chain-none number _ s 3 (sym q))
+  weighted-missing q = sym (chain-none number _ s (fault 3) (sym q))
 
   pub weighted-number : (w : ℤ) (n : ℕ) → got w n ≡ number s → more n (afterWeight o w (drop n s)) ≡ weighted o s
   unfolding weighted

@@ -1,36 +1,38 @@
-// Terms: "number, one or more blanks, optional `~` or `-` (negation), `x`, digits, blanks" (01, "The text"). Assumes nothing.
-use crate::literal::LiteralRead;
+// Terms: "number, one or more blanks, optional `~` or `-` (negation), `x`, digits, blanks" (01, "The text"). Assumes
+// nothing.
 use definitions::Beginning;
+use definitions::Fault;
 use definitions::Options;
+use literal_read::LiteralRead;
 use literals::Lit;
 use numbers::NumberRead;
 ghost use mathlib.Core.Path.{_≡_};
 ghost use Rattle.definitions.specs.Text.{afterWeight, weighted, termStep};
 ghost use Rattle.pieces.specs.Said.{saidTerm, saidNext};
 
-// A term and the bytes that it takes, or the number of a refusal.
+// A term and the bytes that it takes, or what it is refused for.
 pub enum TermRead {
     Term {
         weight: i64,
         literal: Lit,
         taken: usize,
     },
-    Refused(u8),
+    Refused(Fault),
 }
 
 // What follows a weight: blanks, literal, blanks. 4: "no blank after a weight".
 fn read_weighted(s: &[u8], options: Options, weight: i64) -> TermRead
     ensures { λ r. ⌜ saidTerm r ≡ afterWeight options weight (now (s .entry)) ⌝ }
 {
-    let k = symbols::blanks_of(s);
+    let k = blanks::blanks_of(s);
     if k == 0 {
-        return TermRead::Refused(4);
+        return TermRead::Refused(Fault { number: 4 });
     }
-    match crate::literal::read_literal(&s[k..], options) {
+    match literal_read::read_literal(&s[k..], options) {
         LiteralRead::Refused(e) => TermRead::Refused(e),
         LiteralRead::Literal(literal, n) => {
             let a = k + n;
-            let j = symbols::blanks_of(&s[a..]);
+            let j = blanks::blanks_of(&s[a..]);
             TermRead::Term {
                 weight,
                 literal,
@@ -44,7 +46,7 @@ pub fn read_term(s: &[u8], options: Options) -> TermRead
     ensures { λ r. ⌜ saidTerm r ≡ weighted options (now (s .entry)) ⌝ }
 {
     let NumberRead::Number(w, n) = numbers::read_number(s) else {
-        return TermRead::Refused(3);
+        return TermRead::Refused(Fault { number: 3 });
     };
     match read_weighted(&s[n..], options, w) {
         TermRead::Refused(e) => TermRead::Refused(e),
@@ -67,7 +69,7 @@ pub enum NextTerm {
         literal: Lit,
         taken: usize,
     },
-    Refused(u8),
+    Refused(Fault),
     Stop,
 }
 

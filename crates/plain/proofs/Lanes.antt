@@ -1,4 +1,5 @@
--- Laws of `lanes`: the bytes of a number, a lane of eight bits for each. A number put together of bytes by shifts has them as its lanes.
+-- Laws of `lanes`: the bytes of a number, a lane of eight bits for each. A number put together of bytes by shifts has
+-- them as its lanes.
 use mathlib.Core.Path.{_≡_, refl, sym, ap, _∙_}
 use mathlib.Core.List.{List, [], _∷_, _++_}
 use Prim.Native.Nat.{ℕ, zero, suc, _+_, _*_, _/_, _%_, _^_, _≤_, _<_}

@@ -1,5 +1,6 @@
--- Weight and literal of a plain term, as the code finds them in a word: a part ends at the gap, the first lane whose byte lacks the bit 4,
--- and the bytes before it are digits; where there is no such gap, or not all are digits, there is no such part.
+-- Weight and literal of a plain term, as the code finds them in a word: a part ends at the gap, the first lane whose
+-- byte lacks the bit 4, and the bytes before it are digits; where there is no such gap, or not all are digits, there is
+-- no such part.
 use mathlib.Core.Path.{_≡_, refl, sym, ap, _∙_}
 use mathlib.Core.Bool.{Bool, true, false, _&&_}
 use mathlib.Core.List.{List}

@@ -1,4 +1,5 @@
--- What the tests of specs/Plain.antt say where they are passed, and what a sign or a letter at the front makes of a text.
+-- What the tests of specs/Plain.antt say where they are passed, and what a sign or a letter at the front makes of a
+-- text.
 use mathlib.Core.Path.{_≡_, refl}
 use mathlib.Core.Bool.{Bool, true, false, cond, _&&_}
 use mathlib.Core.List.{List}

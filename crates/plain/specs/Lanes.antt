@@ -1,4 +1,5 @@
--- Eight bytes as one number, a lane of eight bits for each, the first byte lowest; digits in lanes; the first marked bit that it has not.
+-- Eight bytes as one number, a lane of eight bits for each, the first byte lowest; digits in lanes; the first marked
+-- bit that it has not.
 use Prim.Native.Nat.{ℕ, zero, suc, _+_, _*_, _/_, _%_, _^_, _≤_, _<_}
 use mathlib.Core.Path.{_≡_}
 use mathlib.Core.Bool.{Bool, true, false, _&&_}
@@ -43,7 +44,8 @@ abbrev pub DigitsSay : ℕ → ℕ → Digits → Type 0
 DigitsSay word bits digits.Other = allBytes isDigit (take (bits / 8) (lanes 8 word)) ≡ false
 DigitsSay word bits (digits.Lanes y) = DigitsAre (take (bits / 8) (lanes 8 word)) y
 
--- no bit, or one that is set in the marks and not in the word; and each that is set in the marks below it is set in the word
+-- no bit, or one that is set in the marks and not in the word; and each that is set in the marks below it is set in the
+-- word
 pub record FirstGap (word marks gap : ℕ) : Type 0 where
   pub there : gap < 64 → (marks / 2 ^ gap % 2 ≡ 1) × (word / 2 ^ gap % 2 ≡ 0)
   pub below : (t : ℕ) → t < gap → marks / 2 ^ t % 2 ≡ 1 → word / 2 ^ t % 2 ≡ 1

@@ -1,4 +1,5 @@
--- What is said of the parts of a plain term (specs/Plain.antt) as they are read, their digits in lanes. The byte behind is looked at later.
+-- What is said of the parts of a plain term (specs/Plain.antt) as they are read, their digits in lanes. The byte behind
+-- is looked at later.
 use Prim.Native.Nat.{ℕ, _-_, _≤_, _<_}
 use mathlib.Core.Path.{_≡_}
 use mathlib.Core.Bool.{Bool, false, _&&_}

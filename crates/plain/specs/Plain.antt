@@ -1,6 +1,6 @@
--- Which terms are plain? `-12 ~x345 `: a weight of at most seven bytes, `-` or nothing and digits; one space; a literal of at most seven
--- bytes, `x` or `~x` and digits, a file number above 0; one space, and no blank behind it. At least 17 bytes are left, and the first index
--- is 0 or 1.
+-- Which terms are plain? `-12 ~x345 `: a weight of at most seven bytes, `-` or nothing and digits; one space; a literal
+-- of at most seven bytes, `x` or `~x` and digits, a file number above 0; one space, and no blank behind it. At least 17
+-- bytes are left, and the first index is 0 or 1.
 use Prim.Native.Nat.{ℕ, _+_, _-_, _≤_, _<_}
 use mathlib.Core.Path.{_≡_}
 use mathlib.Core.Bool.{Bool, cond, _&&_}

@@ -1,6 +1,6 @@
-// Terms in their plain form, as solvers' files have them: a weight of up to seven bytes, a `-` or none and digits; one space; a literal
-// of up to seven, `x` or `~x` and digits; one space, and no blank behind it. specs/Plain.antt says exactly which terms are plain; one of
-// any other form is left to others. Assumes nothing.
+// Terms in their plain form, as solvers' files have them: a weight of up to seven bytes, a `-` or none and digits; one
+// space; a literal of up to seven, `x` or `~x` and digits; one space, and no blank behind it. specs/Plain.antt says
+// exactly which terms are plain; one of any other form is left to others. Assumes nothing.
 mod parts;
 mod word;
 
@@ -41,9 +41,10 @@ fn is_spaced(s: &[u8], gap: usize, end: usize) -> bool
     b' ' < s[end]
 }
 
-// The term at the front of s, if it is plain. "Each reading step takes the rest of the file from where the last one stopped": the weight
-// is read from s, the literal from what is left behind the weight's space. They and two spaces take 16 bytes at most. A file number above 0
-// is not below the first index 0 or 1; with another first index no term is plain.
+// The term at the front of s, if it is plain. "Each reading step takes the rest of the file from where the last one
+// stopped": the weight is read from s, the literal from what is left behind the weight's space. They and two spaces
+// take 16 bytes at most. A file number above 0 is not below the first index 0 or 1; with another first index no term is
+// plain.
 pub fn plain_term(s: &[u8], options: Options) -> PlainRead
     ensures { λ r. ⌜ saidPlain r ≡ plainAt options (now (s .entry)) ⌝ }
 {

@@ -1,5 +1,5 @@
-// The two parts of a plain term, weight and literal: each is read by eight bytes at once, from the rest of the file where it begins.
-// Assumes nothing.
+// The two parts of a plain term, weight and literal: each is read by eight bytes at once, from the rest of the file
+// where it begins. Assumes nothing.
 use crate::word::Digits;
 ghost use Prim.Native.Nat.{_≤_};
 ghost use lib.ListN.{length};

@@ -1,5 +1,5 @@
-// Eight bytes at once. A word holds eight bytes, the first in its lowest lane of eight bits; digits in its lanes are tested and made a
-// number together, without a branch for each. Assumes nothing.
+// Eight bytes at once. A word holds eight bytes, the first in its lowest lane of eight bits; digits in its lanes are
+// tested and made a number together, without a branch for each. Assumes nothing.
 ghost use mathlib.Core.Path.{_≡_};
 ghost use Prim.Native.Nat.{_≤_};
 ghost use lib.ListN.{length, take};

@@ -12,10 +12,11 @@ use mir.Facts.{toZ-ofZ, toZ-pos}
 use Rattle.definitions.specs.Limits.{least, greatest, weightLimit, inI64}
 use Rattle.definitions.specs.Refusal.{Checked, refuse, accept}
 use Rattle.definitions.specs.Table.{andThen}
+use Rattle.definitions.specs.declared.Kind.{Kind}
+use Rattle.definitions.specs.Back.{isGoal}
 use Rattle.definitions.proofs.Whole.{one-side, up-pos, dn-pos, up-negsuc, dn-negsuc, up-neg, dn-neg, sum-is, diff-is, lt-is, ge-is, in-up}
 use Rattle.definitions.proofs.Whole.{in-dn, is-in, in-true, true-in, over-up, over-dn, same}
-use Rattle.printed.specs.declared.kinds.Kind.{Kind}
-use Rattle.printed.specs.Kinds.{isAtMost, isObjective}
+use Rattle.printed.specs.Kinds.{isAtMost}
 use Rattle.printed.specs.Bounds.{within, boundBefore, boundAfter, fallenBound, printedBound}
 
 -- ---- within 64 bits, and beyond
@@ -163,13 +164,13 @@ module _ (n : ℕ) (h : n ≤ weightLimit) where
   pub negative-size-is : toZ w64 (ofZ w64 (pos 0 -ℤ toZ w64 n)) ≡ negℤ (pos n)
   negative-size-is = toZ-ofZ negative-size-fits ∙ negative-is
 
-pub after-grown : (k : Kind) (b : ℤ) (n : ℕ) → isObjective k ≡ true → b -ℤ negℤ (pos n) ≡ boundAfter k b n
+pub after-grown : (k : Kind) (b : ℤ) (n : ℕ) → isGoal k ≡ true → b -ℤ negℤ (pos n) ≡ boundAfter k b n
 after-grown k b n e =
     same (b -ℤ negℤ (pos n)) (b +ℤ pos n)
     (omega (arith, diff-is b (negℤ (pos n)), sum-is b (pos n), up-neg (pos n), dn-neg (pos n), up-pos n, dn-pos n))
     ∙ rw e
 
-pub after-fallen : (k : Kind) (b : ℤ) (n : ℕ) → isObjective k ≡ false → b -ℤ pos n ≡ boundAfter k b n
+pub after-fallen : (k : Kind) (b : ℤ) (n : ℕ) → isGoal k ≡ false → b -ℤ pos n ≡ boundAfter k b n
 after-fallen k b n e = rw e
 
 module _ (k : Kind) (b : ℤ) (fall : ℕ) where

@@ -1,8 +1,5 @@
 pub mod Tests
 pub mod Sorts
-pub mod OneTerm
-pub mod AllTerms
-pub mod WeightSums
 pub mod Differences
 pub mod PrintedRows
 pub mod Texts

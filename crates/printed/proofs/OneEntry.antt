@@ -1,5 +1,5 @@
 -- One row of the table: what its kind and its terms say to the code is what the definitions say.
-use mathlib.Core.Path.{_≡_, refl, sym, ap, _∙_}
+use mathlib.Core.Path.{_≡_, refl, ap}
 use mathlib.Core.Bool.{Bool, true, cond, _&&_}
 use mathlib.Core.List.{List, [], _∷_, map, map-id}
 use Prim.Native.Nat.{ℕ, _+_, _-_}
@@ -8,19 +8,19 @@ use lib.IntN.{ℤ, pos, negsuc}
 use lib.Signed.{nonNeg}
 use lib.ListN.{take, drop}
 use Rattle.definitions.specs.Refusal.{Checked, refuse, accept}
-use Rattle.definitions.specs.Row.{Term, Kind, atLeast, atMost, equal, objective, rowOf}
+use Rattle.definitions.specs.Row.{Term, rowOf}
 use Rattle.definitions.specs.Table.{Table, termsAt, inColumn, indexed, Sort, remark, clause, unknown, weighted, cardinality, sortOf}
 use Rattle.definitions.specs.Table.{andThen}
 use Rattle.definitions.specs.declared.Entry.{Entry}
 use Rattle.definitions.specs.Write.{unitTerm, weighs, Item, line, itemBy, itemIn, allowed, writtenIn}
 use Rattle.definitions.specs.declared.Mode.{Mode}
+use Rattle.definitions.specs.declared.Kind.{Kind}
+use Rattle.definitions.specs.declared.Kind.the-variants.{AtLeast as atLeast}
 use Rattle.columns.proofs.Terms.{terms-at}
-use Rattle.printed.specs.declared.kinds.Kind as code
-use Rattle.printed.specs.declared.kinds.Kind.the-variants.{AtLeast}
 use Rattle.printed.specs.declared.kinds.Sort as said
 use Rattle.printed.specs.declared.kinds.Sort.the-variants.{Comment, Row, Refused}
-use Rattle.printed.specs.Kinds.{kindOf, codeKind, weightedSort, cardinalitySort, sortSaid}
-use Rattle.printed.specs.Terms.{ownTerm, ownTerms}
+use Rattle.printed.specs.Kinds.{weightedSort, cardinalitySort, sortSaid}
+use Rattle.shown.specs.Terms.{ownTerm, ownTerms}
 use Rattle.printed.specs.Rows.{entryOf, onColumns}
 use Rattle.printed.proofs.Tests.{and-true, and-false}
 
@@ -39,14 +39,8 @@ abbrev pub itemFor : said.Sort → Table → List ℕ → Entry → Checked Item
 itemFor Comment t text e = itemBy remark t text e
 itemFor (Row s) t text e =
     cond (inColumn t e && (indexed (map (ownTerm (s .unit)) (termsAt t e)) && weighs (map (ownTerm (s .unit)) (termsAt t e))))
-    (accept (line (rowOf (kindOf (s .kind)) (s .bound) (map (ownTerm (s .unit)) (termsAt t e))))) (refuse 11)
+    (accept (line (rowOf (s .kind) (s .bound) (map (ownTerm (s .unit)) (termsAt t e))))) (refuse 11)
 itemFor Refused t text e = refuse 11
-
-kind-back : (k : Kind) → kindOf (codeKind k) ≡ k
-kind-back atLeast = refl
-kind-back atMost = refl
-kind-back equal = refl
-kind-back objective = refl
 
 unit-indexed : (ts : List Term) → indexed (map unitTerm ts) ≡ indexed ts
 unfolding indexed unitTerm
@@ -62,29 +56,24 @@ module _ (t : Table) (text : List ℕ) (e : Entry) where
   abbrev terms : List Term
   terms = termsAt t e
 
-  unit-item : (k : code.Kind) (b : ℤ) → cond (inColumn t e && indexed terms) (accept (line (rowOf (kindOf k) b (map unitTerm terms))))
-      (refuse 11)
+  unit-item : (k : Kind) (b : ℤ) → cond (inColumn t e && indexed terms) (accept (line (rowOf k b (map unitTerm terms)))) (refuse 11)
       ≡ itemFor (Row (record { kind = k; unit = true; bound = b })) t text e
   unit-item k b = rw (unit-indexed terms, unit-weighs terms, and-true (indexed terms))
 
   cardinality-item : (k : Kind) (b : ℤ)
       → cond (inColumn t e && (indexed terms && nonNeg b)) (accept (line (rowOf k b (map unitTerm terms)))) (refuse 11)
-      ≡ itemFor (cardinalitySort (codeKind k) b) t text e
-  cardinality-item k (pos n) =
-      rw (and-true (indexed terms))
-      (ap (λ (j : Kind). cond (inColumn t e && indexed terms) (accept (line (rowOf j (pos n) (map unitTerm terms)))) (refuse 11))
-      (sym (kind-back k))
-      ∙ unit-item (codeKind k) (pos n))
+      ≡ itemFor (cardinalitySort k b) t text e
+  cardinality-item k (pos n) = rw (and-true (indexed terms)) (unit-item k (pos n))
   cardinality-item k (negsuc n) = rw (and-false (indexed terms), and-false (inColumn t e))
 
   weighted-item : (k : Kind) (b : ℤ)
       → cond (inColumn t e && (indexed terms && weighs terms)) (accept (line (rowOf k b terms))) (refuse 11)
-      ≡ itemFor (weightedSort (codeKind k) b) t text e
-  weighted-item k b = rw (map-id terms, kind-back k)
+      ≡ itemFor (weightedSort k b) t text e
+  weighted-item k b = rw (map-id terms)
 
   item-is : (s : Sort) → itemBy s t text e ≡ itemFor (sortSaid s (e .bound)) t text e
   item-is remark = refl
-  item-is clause = unit-item AtLeast (pos 1)
+  item-is clause = unit-item atLeast (pos 1)
   item-is unknown = refl
   item-is (weighted k) = weighted-item k (e .bound)
   item-is (cardinality k) = cardinality-item k (e .bound)

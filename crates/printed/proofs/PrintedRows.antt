@@ -12,23 +12,25 @@ use lib.Signed.{nonNeg}
 use Rattle.definitions.specs.Limits.{weightLimit, inI64}
 use Rattle.definitions.specs.Refusal.{refuse, accept}
 use Rattle.definitions.specs.Literal.{negated}
-use Rattle.definitions.specs.Row.{Term, weightOf, Kind, atLeast, equal, objective, Row, rowOf, sizes}
+use Rattle.definitions.specs.Row.{Term, weightOf, Row, rowOf, sizes}
 use Rattle.definitions.specs.Table.{andThen}
 use Rattle.definitions.specs.Normal.{moved, totalBy}
 use Rattle.definitions.specs.Write.{flipTerm, flipped, plainTerm, fall, unnegated, printed, weighs, bounded}
 use Rattle.definitions.specs.declared.Mode.{Mode}
+use Rattle.definitions.specs.declared.Kind.{Kind}
+use Rattle.definitions.specs.declared.Kind.the-variants.{AtLeast as atLeast, AtMost as atMost, Equal as equal, Objective as objective}
+use Rattle.definitions.specs.Back.{isGoal}
+use Rattle.definitions.proofs.MeansBack.{shownKind}
 use Rattle.definitions.proofs.Whole.{up-pos, dn-pos, up-neg, dn-neg, sum-is, diff-is, same}
 use Rattle.columns.specs.Sizes.{capped}
-use Rattle.printed.specs.declared.terms.Style.{Style}
-use Rattle.printed.specs.declared.kinds.Kind as code
-use Rattle.printed.specs.declared.kinds.Kind.the-variants.{AtLeast, AtMost, Equal, Objective}
-use Rattle.printed.specs.Kinds.{kindOf, isAtMost, isObjective}
-use Rattle.printed.specs.Terms.{flippedCode, flippedTerm, plainedTerm, shownTerm, fallen}
+use Rattle.shown.specs.declared.terms.Style.{Style}
+use Rattle.printed.specs.Kinds.{isAtMost}
+use Rattle.shown.specs.Terms.{flippedCode, flippedTerm, plainedTerm, shownTerm, fallen}
 use Rattle.printed.specs.Bounds.{within, boundBefore, boundAfter, printedBound}
-use Rattle.printed.specs.Sums.{noSums, summed}
+use Rattle.shown.specs.Sums.{noSums, summed}
 use Rattle.printed.proofs.Tests.{and-left, and-right}
 use Rattle.printed.proofs.Differences.{fallen-is}
-use Rattle.printed.proofs.WeightSums.{fallSize, falls, falls-most, summed-total, summed-fall}
+use Rattle.shown.proofs.WeightSums.{fallSize, falls, falls-most, summed-total, summed-fall}
 
 -- ---- totals of weights that are not negative
 
@@ -97,56 +99,46 @@ module _ (s : Style) (p : s .plain ≡ true) where
 
 -- ---- the row before the fall
 
--- "An 'at most' row is written with ... `>=`"
-abbrev pub shownKind : code.Kind → Kind
-shownKind AtLeast = atLeast
-shownKind AtMost = atLeast
-shownKind Equal = equal
-shownKind Objective = objective
-
-abbrev as-row : code.Kind → ℤ → List Term → Row
-as-row k b ts = rowOf (kindOf k) b ts
-
 module _ (b : ℤ) (ts : List Term) where
-  flipped-kind : (k : code.Kind) → flipped (as-row k b ts) .kind ≡ shownKind k
+  flipped-kind : (k : Kind) → flipped (rowOf k b ts) .kind ≡ shownKind k
   unfolding flipped
-  flipped-kind AtLeast = refl
-  flipped-kind AtMost = refl
-  flipped-kind Equal = refl
-  flipped-kind Objective = refl
+  flipped-kind atLeast = refl
+  flipped-kind atMost = refl
+  flipped-kind equal = refl
+  flipped-kind objective = refl
 
-  flipped-terms : (k : code.Kind) → flipped (as-row k b ts) .terms ≡ map (flippedTerm (isAtMost k)) ts
+  flipped-terms : (k : Kind) → flipped (rowOf k b ts) .terms ≡ map (flippedTerm (isAtMost k)) ts
   unfolding flipped
-  flipped-terms AtLeast = sym (map-id ts)
-  flipped-terms AtMost = refl
-  flipped-terms Equal = sym (map-id ts)
-  flipped-terms Objective = sym (map-id ts)
+  flipped-terms atLeast = sym (map-id ts)
+  flipped-terms atMost = refl
+  flipped-terms equal = sym (map-id ts)
+  flipped-terms objective = sym (map-id ts)
 
-  pub flipped-bound : (k : code.Kind) → weighs ts ≡ true → flipped (as-row k b ts) .bound ≡ boundBefore k b (sizes ts)
+  pub flipped-bound : (k : Kind) → weighs ts ≡ true → flipped (rowOf k b ts) .bound ≡ boundBefore k b (sizes ts)
   unfolding flipped
-  flipped-bound AtLeast e = refl
-  flipped-bound AtMost e = ap (λ (z : ℤ). z -ℤ b) (weighs-total ts e)
-  flipped-bound Equal e = refl
-  flipped-bound Objective e = refl
+  flipped-bound atLeast e = refl
+  flipped-bound atMost e = ap (λ (z : ℤ). z -ℤ b) (weighs-total ts e)
+  flipped-bound equal e = refl
+  flipped-bound objective e = refl
 
 -- ---- the printed row
 
-after-none : (k : code.Kind) (b : ℤ) → b ≡ boundAfter k b 0
-after-none k b = by (isObjective k)
+after-none : (k : Kind) (b : ℤ) → b ≡ boundAfter k b 0
+after-none k b = by (isGoal k)
   where
     by : (o : Bool) → b ≡ cond o (b +ℤ pos 0) (b -ℤ pos 0)
     by true = sym (+ℤ-idr b)
     by false = sym (+ℤ-idr b)
 
-after-moved : (k : code.Kind) (b : ℤ) (n : ℕ) → moved (shownKind k) b (negℤ (pos n)) ≡ boundAfter k b n
-after-moved AtLeast b n = refl
-after-moved AtMost b n = refl
-after-moved Equal b n = refl
-after-moved Objective b n =
+after-moved : (k : Kind) (b : ℤ) (n : ℕ) → moved (shownKind k) b (negℤ (pos n)) ≡ boundAfter k b n
+after-moved atLeast b n = refl
+after-moved atMost b n = refl
+after-moved equal b n = refl
+after-moved objective b n =
     same (b -ℤ negℤ (pos n)) (b +ℤ pos n)
     (omega (arith, diff-is b (negℤ (pos n)), sum-is b (pos n), up-neg (pos n), dn-neg (pos n), up-pos n, dn-pos n))
 
-module _ (k : code.Kind) (b : ℤ) (ts : List Term) (s : Style) (f : s .flip ≡ isAtMost k) where
+module _ (k : Kind) (b : ℤ) (ts : List Term) (s : Style) (f : s .flip ≡ isAtMost k) where
   no-fall : s .plain ≡ false → (t : Term) → fallSize s t ≡ 0
   unfolding fallSize fallen
   no-fall p t = rw p
@@ -156,27 +148,19 @@ module _ (k : code.Kind) (b : ℤ) (ts : List Term) (s : Style) (f : s .flip ≡
   no-falls p [] = refl
   no-falls p (t ∷ us) = omega (arith, no-fall p t, no-falls p us)
 
-  pub printed-kind : printed (s .plain) (as-row k b ts) .kind ≡ shownKind k
-  unfolding printed unnegated
-  printed-kind = by (s .plain)
-    where
-      by : (p : Bool) → cond p (unnegated (flipped (as-row k b ts))) (flipped (as-row k b ts)) .kind ≡ shownKind k
-      by true = flipped-kind b ts k
-      by false = flipped-kind b ts k
-
-  pub printed-terms : printed (s .plain) (as-row k b ts) .terms ≡ map (shownTerm s) ts
+  pub printed-terms : printed (s .plain) (rowOf k b ts) .terms ≡ map (shownTerm s) ts
   unfolding printed unnegated shownTerm
   printed-terms = rw f (by (s .plain))
     where
-      by : (p : Bool) → cond p (unnegated (flipped (as-row k b ts))) (flipped (as-row k b ts)) .terms
+      by : (p : Bool) → cond p (unnegated (flipped (rowOf k b ts))) (flipped (rowOf k b ts)) .terms
           ≡ map (λ t. plainedTerm p (flippedTerm (isAtMost k) t)) ts
       by true = ap (map plainTerm) (flipped-terms b ts k) ∙ map-map plainTerm (flippedTerm (isAtMost k)) ts
       by false = flipped-terms b ts k
 
-  pub printed-bound : weighs ts ≡ true → printed (s .plain) (as-row k b ts) .bound ≡ boundAfter k (boundBefore k b (sizes ts)) (falls s ts)
+  pub printed-bound : weighs ts ≡ true → printed (s .plain) (rowOf k b ts) .bound ≡ boundAfter k (boundBefore k b (sizes ts)) (falls s ts)
   printed-bound e = by (s .plain) refl
     where
-      by : (p : Bool) → s .plain ≡ p → printed p (as-row k b ts) .bound ≡ boundAfter k (boundBefore k b (sizes ts)) (falls s ts)
+      by : (p : Bool) → s .plain ≡ p → printed p (rowOf k b ts) .bound ≡ boundAfter k (boundBefore k b (sizes ts)) (falls s ts)
       by true p = unfold printed unnegated in rw (
         flipped-kind b ts k,
         flipped-bound b ts k e,
@@ -197,10 +181,10 @@ then-within h x = by (inI64 x)
     by true = refl
     by false = refl
 
-module _ (k : code.Kind) (b : ℤ) (ts : List Term) (s : Style) (f : s .flip ≡ isAtMost k) (m : Mode) (p : m .plain ≡ s .plain)
+module _ (k : Kind) (b : ℤ) (ts : List Term) (s : Style) (f : s .flip ≡ isAtMost k) (m : Mode) (p : m .plain ≡ s .plain)
     (e : weighs ts ≡ true) where
   pub bound-by-sums : printedBound k b (summed s noSums ts .total) (summed s noSums ts .fall)
-      ≡ cond (bounded m (as-row k b ts)) (accept (printed (m .plain) (as-row k b ts) .bound)) (refuse 8)
+      ≡ cond (bounded m (rowOf k b ts)) (accept (printed (m .plain) (rowOf k b ts) .bound)) (refuse 8)
   unfolding printedBound bounded
   bound-by-sums = rw p (cases (decLe (sizes ts) weightLimit))
     where
@@ -211,8 +195,8 @@ module _ (k : code.Kind) (b : ℤ) (ts : List Term) (s : Style) (f : s .flip ≡
       fallen-by = summed-fall s noSums ts (omega arith)
 
       cases : Dec (sizes ts ≤ weightLimit) → printedBound k b (summed s noSums ts .total) (summed s noSums ts .fall)
-          ≡ cond (leb (sizes ts) weightLimit && (inI64 (flipped (as-row k b ts) .bound) &&
-          inI64 (printed (s .plain) (as-row k b ts) .bound))) (accept (printed (s .plain) (as-row k b ts) .bound)) (refuse 8)
+          ≡ cond (leb (sizes ts) weightLimit && (inI64 (flipped (rowOf k b ts) .bound) &&
+          inI64 (printed (s .plain) (rowOf k b ts) .bound))) (accept (printed (s .plain) (rowOf k b ts) .bound)) (refuse 8)
       cases (yes h) =
           let t : summed s noSums ts .total ≡ sizes ts = omega (arith, total) in
           let u : summed s noSums ts .fall ≡ falls s ts = omega (arith, fallen-by, falls-most s ts) in

@@ -7,7 +7,7 @@ use borrow.Author.Tests.{ltb-true, ne-eqb}
 use lib.IntN.{ℤ, pos, negsuc}
 use lib.Signed.{ltZ}
 use Rattle.definitions.specs.Table.{unknown, sortOf}
-use Rattle.printed.specs.declared.kinds.Kind.{Kind}
+use Rattle.definitions.specs.declared.Kind.{Kind}
 use Rattle.printed.specs.declared.kinds.Sort.the-variants.{Row, Refused}
 use Rattle.printed.specs.Kinds.{cardinalitySort}
 

@@ -12,14 +12,16 @@ use Rattle.definitions.specs.Number.{integerText}
 use Rattle.definitions.specs.Row.{Term, Row, rowOf}
 use Rattle.definitions.specs.Write.{termText, spaced, apart, closed, remarkText, offsetWords, isZero, offsetText, comparisonText, textBy}
 use Rattle.definitions.specs.Write.{rowText, printed}
-use Rattle.printed.specs.declared.terms.Style.{Style}
-use Rattle.printed.specs.declared.kinds.Kind as code
-use Rattle.printed.specs.declared.kinds.Kind.the-variants.{AtLeast, AtMost, Equal, Objective}
-use Rattle.printed.specs.Kinds.{kindOf, isAtMost, isEqual, isObjective}
-use Rattle.printed.specs.Terms.{shownTerm, spacedBy, shownText, termsText}
+use Rattle.definitions.specs.declared.Kind.{Kind}
+use Rattle.definitions.specs.declared.Kind.the-variants.{AtLeast as atLeast, AtMost as atMost, Equal as equal, Objective as objective}
+use Rattle.definitions.specs.Back.{isGoal}
+use Rattle.definitions.proofs.MeansBack.{shownKind, printed-kind}
+use Rattle.shown.specs.declared.terms.Style.{Style}
+use Rattle.printed.specs.Kinds.{isAtMost, isEqual}
+use Rattle.shown.specs.Terms.{shownTerm, spacedBy, shownText, termsText}
 use Rattle.printed.specs.Rows.{operatorText}
 use Rattle.printed.proofs.Tests.{not-both}
-use Rattle.printed.proofs.PrintedRows.{shownKind, printed-kind, printed-terms}
+use Rattle.printed.proofs.PrintedRows.{printed-terms}
 
 -- ---- an offset
 
@@ -42,10 +44,10 @@ pub remark-length : (t : List ℕ) → length (remarkText t) ≡ length t + 3
 unfolding remarkText
 remark-length t = omega (arith, length-append t (10 ∷ []))
 
-pub operator-equal : (k : code.Kind) → isEqual k ≡ true → operatorText k ≡ 61 ∷ []
+pub operator-equal : (k : Kind) → isEqual k ≡ true → operatorText k ≡ 61 ∷ []
 operator-equal k e = rw e
 
-pub operator-other : (k : code.Kind) → isEqual k ≡ false → operatorText k ≡ 62 ∷ 61 ∷ []
+pub operator-other : (k : Kind) → isEqual k ≡ false → operatorText k ≡ 62 ∷ 61 ∷ []
 operator-other k e = rw e
 
 module _ (z : ℤ) where
@@ -82,34 +84,34 @@ module _ (s : Style) where
   terms-apart a [] = refl
   terms-apart a (t ∷ ts) = ap₂ (λ (x y : List ℕ). x ++ y) (apart-is (s .first) (shownTerm s t) (s .apart) a) (terms-apart a ts)
 
-module _ (k : code.Kind) (b : ℤ) (ts : List Term) (s : Style) (f : s .flip ≡ isAtMost k) (a : s .apart ≡ isObjective k) where
+module _ (k : Kind) (b : ℤ) (ts : List Term) (s : Style) (f : s .flip ≡ isAtMost k) (a : s .apart ≡ isGoal k) where
   abbrev line-of : Row
-  line-of = printed (s .plain) (rowOf (kindOf k) b ts)
+  line-of = printed (s .plain) (rowOf k b ts)
 
   by-kind : rowText (s .first) line-of ≡ textBy (shownKind k) (s .first) (line-of .bound) (map (shownTerm s) ts)
   unfolding rowText
-  by-kind = rw (printed-kind k b ts s f, printed-terms k b ts s f)
+  by-kind = rw (printed-kind (s .plain) (rowOf k b ts), printed-terms k b ts s f)
 
-  pub constraint-text : isObjective k ≡ false
+  pub constraint-text : isGoal k ≡ false
       → rowText (s .first) line-of ≡ termsText s ts ++ comparisonText (operatorText k) (line-of .bound)
   constraint-text o = by-kind ∙ cases k o (terms-spaced s (a ∙ o) ts)
     where
-      cases : (k : code.Kind) → isObjective k ≡ false → joined (spaced (s .first)) (map (shownTerm s) ts) ≡ termsText s ts
+      cases : (k : Kind) → isGoal k ≡ false → joined (spaced (s .first)) (map (shownTerm s) ts) ≡ termsText s ts
           → textBy (shownKind k) (s .first) (line-of .bound) (map (shownTerm s) ts)
           ≡ termsText s ts ++ comparisonText (operatorText k) (line-of .bound)
-      cases AtLeast o e = rw e
-      cases AtMost o e = rw e
-      cases Equal o e = rw e
-      cases Objective o e = not-both refl o
+      cases atLeast o e = rw e
+      cases atMost o e = rw e
+      cases equal o e = rw e
+      cases objective o e = not-both refl o
 
-  pub objective-text : isObjective k ≡ true
+  pub objective-text : isGoal k ≡ true
       → rowText (s .first) line-of ≡ minText ++ (termsText s ts ++ (closed ++ offsetText (line-of .bound)))
   objective-text o = by-kind ∙ cases k o (terms-apart s (a ∙ o) ts)
     where
-      cases : (k : code.Kind) → isObjective k ≡ true → joined (apart (s .first)) (map (shownTerm s) ts) ≡ termsText s ts
+      cases : (k : Kind) → isGoal k ≡ true → joined (apart (s .first)) (map (shownTerm s) ts) ≡ termsText s ts
           → textBy (shownKind k) (s .first) (line-of .bound) (map (shownTerm s) ts)
           ≡ minText ++ (termsText s ts ++ (closed ++ offsetText (line-of .bound)))
-      cases AtLeast o e = not-both o refl
-      cases AtMost o e = not-both o refl
-      cases Equal o e = not-both o refl
-      cases Objective o e = rw e
+      cases atLeast o e = not-both o refl
+      cases atMost o e = not-both o refl
+      cases equal o e = not-both o refl
+      cases objective o e = rw e

@@ -1,4 +1,5 @@
--- The bound that is printed, from the row's bound, the sum of its weights, and the sum of those that the bound falls by.
+-- The bound that is printed, from the row's bound, the sum of its weights, and the sum of those that the bound falls
+-- by.
 use Prim.Native.Nat.{ℕ}
 use mathlib.Core.Bool.{cond}
 use lib.Dec.{leb}
@@ -6,8 +7,9 @@ use lib.IntN.{ℤ, pos, _+ℤ_, _-ℤ_}
 use Rattle.definitions.specs.Limits.{weightLimit, inI64}
 use Rattle.definitions.specs.Refusal.{Checked, refuse, accept}
 use Rattle.definitions.specs.Table.{andThen}
-use Rattle.printed.specs.declared.kinds.Kind.{Kind}
-use Rattle.printed.specs.Kinds.{isAtMost, isObjective}
+use Rattle.definitions.specs.declared.Kind.{Kind}
+use Rattle.definitions.specs.Back.{isGoal}
+use Rattle.printed.specs.Kinds.{isAtMost}
 use Rattle.printed.specs.declared.bounds.Bound as code
 use Rattle.printed.specs.declared.bounds.Bound.the-variants.{Is, Beyond}
 
@@ -25,7 +27,7 @@ boundBefore k b total = cond (isAtMost k) (pos total -ℤ b) b
 
 -- "the bound falls by w; an objective's offset grows by w"
 abbrev pub boundAfter : Kind → ℤ → ℕ → ℤ
-boundAfter k b fall = cond (isObjective k) (b +ℤ pos fall) (b -ℤ pos fall)
+boundAfter k b fall = cond (isGoal k) (b +ℤ pos fall) (b -ℤ pos fall)
 
 -- a sum of weights above M is beyond, too
 abbrev pub fallenBound : Kind → ℕ → ℤ → Checked ℤ

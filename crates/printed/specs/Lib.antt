@@ -1,5 +1,3 @@
 pub mod Kinds
-pub mod Terms
-pub mod Sums
 pub mod Bounds
 pub mod Rows

@@ -7,14 +7,14 @@ use Rattle.definitions.specs.Bytes.{greater, equals}
 use Rattle.definitions.specs.Row.{Row, rowOf}
 use Rattle.definitions.specs.Table.{Table, table}
 use Rattle.definitions.specs.declared.Entry.{Entry}
-use Rattle.printed.specs.declared.kinds.Kind.{Kind}
+use Rattle.definitions.specs.declared.Kind.{Kind}
 use Rattle.printed.specs.declared.kinds.Shape.{Shape}
-use Rattle.printed.specs.Kinds.{kindOf, isEqual}
-use Rattle.printed.specs.Terms.{ownTerms}
+use Rattle.printed.specs.Kinds.{isEqual}
+use Rattle.shown.specs.Terms.{ownTerms}
 
 -- the row of a shape, from its part of the two columns
 abbrev pub rowOn : Shape → List ℤ → List ℕ → Row
-rowOn s ws cs = rowOf (kindOf (s .kind)) (s .bound) (ownTerms (s .unit) ws cs)
+rowOn s ws cs = rowOf (s .kind) (s .bound) (ownTerms (s .unit) ws cs)
 
 -- "An 'at most' row is written with ... `>=`"
 abbrev pub operatorText : Kind → List ℕ

@@ -1,11 +1,12 @@
-// The bound that is printed: "bound = weight sum less bound" of an "at most" row, then the fall of no-negated mode, each within 64 bits. Assumes nothing.
-use crate::kinds::Kind;
+// The bound that is printed: "bound = weight sum less bound" of an "at most" row, then the fall of no-negated mode,
+// each within 64 bits. Assumes nothing.
 use crate::kinds::is_at_most;
 use crate::kinds::is_objective;
-use crate::sums::Sums;
 use definitions::GREATEST;
+use definitions::Kind;
 use definitions::LEAST;
 use definitions::WEIGHT_LIMIT;
+use shown::Sums;
 ghost use mathlib.Core.Path.{_≡_};
 ghost use Prim.Native.Nat.{_≤_};
 ghost use lib.IntN.{_-ℤ_};

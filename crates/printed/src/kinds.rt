@@ -1,16 +1,12 @@
-// What the number in the column of kinds says (01, "The lines written"): a comment, a row of some kind, or nothing that the writer knows. Assumes nothing.
-use crate::terms::Style;
+// What the number in the column of kinds says (01, "The lines written"): a comment, a row of some kind, or nothing that
+// the writer knows. Assumes nothing.
+use definitions::Kind;
 use definitions::Mode;
+use shown::Style;
 ghost use mathlib.Core.Path.{_≡_};
+ghost use Rattle.definitions.specs.Back.{isGoal};
 ghost use Rattle.definitions.specs.Table.{sortOf};
-ghost use Rattle.printed.specs.Kinds.{isAtMost, isObjective, styleOf, weightedSort, cardinalitySort, sortSaid};
-
-pub enum Kind {
-    AtLeast,
-    AtMost,
-    Equal,
-    Objective,
-}
+ghost use Rattle.printed.specs.Kinds.{isAtMost, styleOf, weightedSort, cardinalitySort, sortSaid};
 
 // A row that is no comment: its kind, whether every weight is 1, and its bound.
 pub struct Shape {
@@ -38,7 +34,7 @@ pub(crate) fn is_at_most(kind: Kind) -> bool
 }
 
 pub(crate) fn is_objective(kind: Kind) -> bool
-    ensures { λ r. ⌜ r ≡ isObjective kind ⌝ }
+    ensures { λ r. ⌜ r ≡ isGoal kind ⌝ }
 {
     match kind {
         Kind::AtLeast => false,

@@ -1,5 +1,5 @@
--- Everything that a user relies on, in one file. Each promise has its sentence in plain words and a proof of one line, which cites
--- the work. What the words mean: crates/definitions/specs.
+-- Everything that a user relies on, in one file. Each promise has its sentence in plain words and a proof of one line,
+-- which cites the work. What the words mean: crates/definitions/specs.
 use Prim.Native.Nat.{ℕ, _≤_, _<_}
 use mathlib.Core.Path.{_≡_, sym, _∙_}
 use mathlib.Core.Logic.{_⊎_}
@@ -29,7 +29,7 @@ use Rattle.normaliser.proofs.normalise.Reads as normalise
 use Rattle.evaluator.proofs.evaluate.Reads as evaluate
 use Rattle.evaluator.proofs.evaluate_known.Reads as evaluate-known
 use Rattle.evaluator.proofs.judge.Reads as judge
-use Rattle.evaluator.proofs.Meant.{looked}
+use Rattle.assigned.specs.Parts.{looked}
 use Rattle.values.specs.Reads.{ReadsValues}
 use Rattle.values.proofs.read_values.Reads as read-values
 use Rattle.promise.proofs.Lent.{columns}
@@ -37,8 +37,8 @@ use Rattle.promise.proofs.Lent.{columns}
 -- ---- What the code promises. `Post` is the contract that the prover makes of the source, over what a call is lent (a), its answer
 -- (r) and what it leaves (s); the check of a crate proves that its code meets it.
 
--- Reading: answer and columns afterwards are those of `reading`. A refused call changes nothing; an accepted one changes only the
--- entries it counts, from the front.
+-- Reading: answer and columns afterwards are those of `reading`. A refused call changes nothing; an accepted one
+-- changes only the entries it counts, from the front.
 pub reading-as-defined : (κs : _) (a : _) (r : _) (s : _) → parse-opb-data.Post κs a r s
     → Reads (a .1 .0) (now (a .0)) (columns (a .1 .1)) r (columns (s .1 .1))
 reading-as-defined κs a r s p = p
@@ -56,21 +56,21 @@ normalising-as-defined κs a r s p = p
 
 -- Evaluating one row: sum and truth, or value, and the ones are those of `evaluating`.
 pub evaluating-as-defined : (κs : _) (a : _) (r : _) (s : _) → evaluate.Post κs a r s
-    → Rattle.evaluator.specs.Said.saidEvaluated r
+    → Rattle.verdicts.specs.Said.saidEvaluated r
     ≡ Rattle.definitions.specs.Evaluate.evaluating (columns a) (a .1 .1 .1 .1 .1 .1 .0) (now (a .1 .1 .1 .1 .1 .1 .1 .0))
 evaluating-as-defined κs a r s p = p
 
--- The same where a second row says which variables are known: those of `evaluatingKnown`. A variable that is not known is refused,
--- never taken as false.
+-- The same where a second row says which variables are known: those of `evaluatingKnown`. A variable that is not known
+-- is refused, never taken as false.
 pub evaluating-known-as-defined : (κs : _) (a : _) (r : _) (s : _) → evaluate-known.Post κs a r s
-    → Rattle.evaluator.specs.Said.saidEvaluated r
+    → Rattle.verdicts.specs.Said.saidEvaluated r
     ≡ Rattle.definitions.specs.Evaluate.evaluatingKnown (columns a) (a .1 .1 .1 .1 .1 .1 .0) (now (a .1 .1 .1 .1 .1 .1 .1 .0))
     (now (a .1 .1 .1 .1 .1 .1 .1 .1 .0))
 evaluating-known-as-defined κs a r s p = p
 
 -- A row that is judged has the sum and truth, or the value, that `evaluatingKnown` says; only the ones are left out.
 pub judging-as-defined : (κs : _) (a : _) (r : _) (s : _) → judge.Post κs a r s
-    → Rattle.evaluator.specs.Said.saidEvaluated r
+    → Rattle.verdicts.specs.Said.saidEvaluated r
     ≡ Rattle.definitions.specs.Evaluate.judging (columns a) (a .1 .1 .1 .1 .1 .1 .0) (now (a .1 .1 .1 .1 .1 .1 .1 .0))
     (now (a .1 .1 .1 .1 .1 .1 .1 .1 .0))
 judging-as-defined κs a r s p = p
@@ -91,13 +91,13 @@ writing-one r₁ r₂ p q = (Rattle.definitions.proofs.Answers.length-known r�
 pub normalising-one : {t o t₁ t₂ : Table} (r₁ r₂ : _) → Normalises t o r₁ t₁ → Normalises t o r₂ t₂ → (r₁ ≡ r₂) × (t₁ ≡ t₂)
 normalising-one r₁ r₂ p q = (Rattle.definitions.proofs.Answers.counted-known r₁ r₂ (p .answer ∙ sym (q .answer)), p .after ∙ sym (q .after))
 
-pub evaluating-one : (r₁ r₂ : _) → Rattle.evaluator.specs.Said.saidEvaluated r₁ ≡ Rattle.evaluator.specs.Said.saidEvaluated r₂ → r₁ ≡ r₂
-evaluating-one = Rattle.evaluator.proofs.OneAnswer.said-evaluated
+pub evaluating-one : (r₁ r₂ : _) → Rattle.verdicts.specs.Said.saidEvaluated r₁ ≡ Rattle.verdicts.specs.Said.saidEvaluated r₂ → r₁ ≡ r₂
+evaluating-one = Rattle.verdicts.proofs.OneAnswer.said-evaluated
 
 pub valuing-one : {b : List ℕ} {n : ℕ} {ws ks ws₁ ks₁ ws₂ ks₂ : List ℕ} (r₁ r₂ : _) → ReadsValues b n ws ks r₁ ws₁ ks₁
     → ReadsValues b n ws ks r₂ ws₂ ks₂ → (r₁ ≡ r₂) × (ws₁ ≡ ws₂) × (ks₁ ≡ ks₂)
 valuing-one r₁ r₂ p q = (
-  Rattle.values.proofs.OneAnswer.said-read r₁ r₂ (p .answer ∙ sym (q .answer)),
+  Rattle.definitions.proofs.Answers.length-known r₁ r₂ (p .answer ∙ sym (q .answer)),
   p .values
       ∙ sym (q .values),
   p .known ∙ sym (q .known),
@@ -109,8 +109,8 @@ examples-answered = Rattle.promise.proofs.TableP.every-example-through-
 
 -- ---- What the definitions are worth.
 
--- There and back: rows that the writer accepts, in either literal mode, are read back one for one, in order, and mean what they
--- meant (demand 3; the record says each part).
+-- There and back: rows that the writer accepts, in either literal mode, are read back one for one, in order, and mean
+-- what they meant (demand 3; the record says each part).
 pub there-and-back : (m : Mode) (t : Table) (text : List ℕ) (room : ℕ) (s : List ℕ)
     → Rattle.definitions.specs.Write.writing m t text room ≡ accepted s → Rattle.definitions.proofs.ThereAndBack.ThereAndBack m t text s
 there-and-back = Rattle.definitions.proofs.ThereAndBack.there-and-back
@@ -146,8 +146,8 @@ pub read-again : (b : List ℕ) (n : ℕ) (ws ks cs : List ℕ) → valuing b n 
     → Rattle.values.proofs.Kept.Unchanged b m (valuesAfter (valuing b n ws ks) ws) (knownAfter (valuing b n ws ks) ks) cs
 read-again = Rattle.values.proofs.Kept.read-again
 
--- A constraint that was evaluated over known variables has that sum, and holds or not, under every assignment that agrees on them:
--- what stays unknown does not matter.
+-- A constraint that was evaluated over known variables has that sum, and holds or not, under every assignment that
+-- agrees on them: what stays unknown does not matter.
 pub known-suffices : (t : Table) (i : ℕ) (ws ks : List ℕ) (b : Assignment)
     → ((v : ℕ) → isKnown (looked ws) (looked ks) v ≡ true → b v ≡ assigned (looked ws) v)
     → (sum : ℤ) (h : Bool) (ones : ℕ)

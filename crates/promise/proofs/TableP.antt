@@ -1,5 +1,5 @@
--- 01's P examples through the code: whatever the contracts that the prover makes of `parse_opb_data` and `write_opb_lines` allow as
--- an answer is 01's answer, with what it leaves in what was lent.
+-- 01's P examples through the code: whatever the contracts that the prover makes of `parse_opb_data` and
+-- `write_opb_lines` allow as an answer is 01's answer, with what it leaves in what was lent.
 use Prim.Native.Nat.{ℕ, zero, suc}
 use mathlib.Core.Path.{_≡_}
 use mathlib.Core.List.{List, [], _∷_, map}

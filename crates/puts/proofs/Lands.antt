@@ -49,7 +49,7 @@ module _ (text : List ℕ) (at : ℕ) (o : List ℕ) where
 -- ---- a byte b at `at`, before a text that was printed behind it
 
 module _ (b : ℕ) (text : List ℕ) (at : ℕ) (o : List ℕ) where
-  byte-before : at + 1 + length text ≤ length o → set (placed text (at + 1) o) at b ≡ placed (b ∷ text) at o
+  pub byte-before : at + 1 + length text ≤ length o → set (placed text (at + 1) o) at b ≡ placed (b ∷ text) at o
   byte-before h =
       let front = take (at + 1) o in
       let rest = text ++ drop (at + 1 + length text) o in

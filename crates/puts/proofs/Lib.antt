@@ -1,2 +1,3 @@
 pub mod Lands
+pub mod Each
 pub mod OneAnswer

@@ -1,4 +1,5 @@
--- What a put leaves: the text at its place, and the place behind it; where it does not fit, everything as it was, and the place itself.
+-- What a put leaves: the text at its place, and the place behind it; where it does not fit, everything as it was, and
+-- the place itself.
 use Prim.Native.Nat.{ℕ, _+_}
 use mathlib.Core.Path.{_≡_}
 use mathlib.Core.Bool.{cond}

@@ -1,1 +1,2 @@
 pub mod Lands
+pub mod Each

@@ -1,5 +1,5 @@
-// Text into a lent output that is known to have room for it, since its length was measured before: the place behind the text is all that is answered. Where it does not fit nothing is changed, and
-// the place stays. Assumes nothing.
+// Text into a lent output that is known to have room for it, since its length was measured before: the place behind the
+// text is all that is answered. Where it does not fit nothing is changed, and the place stays. Assumes nothing.
 use outputs::Put;
 ghost use mathlib.Core.Path.{_≡_};
 ghost use Rattle.definitions.specs.Number.{decimal, integerText};

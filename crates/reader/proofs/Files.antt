@@ -1,10 +1,9 @@
 -- What the public entry answers and leaves: what the first walk counted, held against the room, is what `reading` says.
-use Prim.Native.Nat.{ℕ, _≤_, _<_}
+use Prim.Native.Nat.{ℕ, _≤_}
 use mathlib.Core.Path.{_≡_, refl, sym, ap, _∙_}
 use mathlib.Core.Bool.{Bool, true, false, cond}
 use mathlib.Core.List.{List, [], _∷_}
 use native.Mathlib.Omega.{arith}
-use borrow.Author.Tests.{le-leb, lt-leb}
 use lib.Dec.{leb}
 use lib.ListN.{length, length-append}
 use Rattle.definitions.specs.Answers.{saidCounted}
@@ -15,7 +14,7 @@ use Rattle.definitions.specs.Walk.{Walked, items, all}
 use Rattle.definitions.specs.Row.{Line, termsOf}
 use Rattle.definitions.specs.Table.{Table, rowRoom, termRoom, Outcome, refused, accepted, allTerms, fitted, totalsOf, counted, after}
 use Rattle.definitions.specs.Text.{statement, inFile}
-use Rattle.definitions.specs.File.{linesOf, statements, file, reading}
+use Rattle.definitions.specs.File.{statements, file, reading}
 use Rattle.definitions.specs.declared.Counted.{Counted}
 use Rattle.definitions.specs.declared.Counted.the-variants as count
 use Rattle.definitions.specs.declared.Options.{Options}
@@ -25,7 +24,8 @@ use Rattle.definitions.proofs.FileAnswers.{file-accepted}
 use Rattle.definitions.proofs.Truths.{never}
 use Rattle.definitions.proofs.Walks.{all-ended, all-summed, total-one}
 use Rattle.definitions.proofs.Statements.{statement-moves, statement-taken}
-use Rattle.reader.specs.Reads.{fittedTotals, Ready, Reads}
+use Rattle.counts.specs.Fitted.{fittedTotals}
+use Rattle.reader.specs.Reads.{Ready, Reads}
 use Rattle.statements.proofs.Briefs.{terms-in-file}
 
 -- ---- a file has no more rows, and no more terms, than bytes
@@ -65,18 +65,6 @@ module _ (o : Options) (s : List ℕ) (ls : List Line) (n : ℕ) (e : statements
 needed-small : (n : ℕ) → n ≤ fileLimit → needed n ≡ n
 unfolding needed
 needed-small n h = omega arith
-
--- ---- what the first walk says: 1, or the walk over the statements
-
-module _ (o : Options) (s : List ℕ) where
-  pub count-long : fileLimit < length s → refused (refusal 1 0) ≡ counted (file o s)
-  unfolding file
-  count-long h = rw (lt-leb (length s) fileLimit h)
-
-  pub count-short : length s ≤ fileLimit → (r : Counted) → saidCounted r ≡ counted (linesOf (statements o s))
-      → saidCounted r ≡ counted (file o s)
-  unfolding file
-  count-short h r e = rw (le-leb (length s) fileLimit h) e
 
 -- ---- held against the room
 
@@ -122,14 +110,3 @@ module _ (o : Options) (s : List ℕ) (t : Table) where
       by : (x : Outcome (List Line)) → reading o s t ≡ x → Ready o s t
       by (refused z) q = let y : accepted n ≡ refused z = e ∙ ap counted q in never (cc)
       by (accepted ls) q = record { given = ls; reads = q }
-
--- ---- room enough, one refusal after the other
-module _ (rows terms : ℕ) (n : Totals) where
-  pub rows-beyond : rows < n .rows → refused (refusal 9 (n .rows)) ≡ fittedTotals rows terms (accepted n)
-  rows-beyond h = rw (lt-leb (n .rows) rows h)
-
-  pub terms-beyond : n .rows ≤ rows → terms < n .terms → refused (refusal 10 (n .terms)) ≡ fittedTotals rows terms (accepted n)
-  terms-beyond h j = rw (le-leb (n .rows) rows h, lt-leb (n .terms) terms j)
-
-  pub both-fit : n .rows ≤ rows → n .terms ≤ terms → accepted n ≡ fittedTotals rows terms (accepted n)
-  both-fit h j = rw (le-leb (n .rows) rows h, le-leb (n .terms) terms j)

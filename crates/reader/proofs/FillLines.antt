@@ -1,5 +1,5 @@
--- What the second walk has filled of the six columns where it stands in the file, and what a statement adds: the loop invariant of
--- `fill_file` as a record.
+-- What the second walk has filled of the six columns where it stands in the file, and what a statement adds: the loop
+-- invariant of `fill_file` as a record.
 use Prim.Native.Nat.{ℕ, _+_, _-_, _≤_, _<_}
 use mathlib.Core.Path.{_≡_, refl, sym, ap, subst, _∙_}
 use mathlib.Core.Bool.{Bool, true, false, cond}
@@ -160,14 +160,14 @@ told-cells at before x y m t = subst (λ (z : Entry). Cells at before (t .line) 
 -- an answer that is no line
 no-line : (r : StatementRead) → OneOf (0 ∷ 1 ∷ []) (tagOf the-type r) → (l : Entry) (m : ℕ) → saidStatement r ≡ item l m → ⊥
 no-line read.End k l m e = never (cc)
-no-line (read.Refused n j) k l m e = never (cc)
+no-line (read.Refused r) k l m e = never (cc)
 no-line (read.Line x j) (inl k) l m e = omega arith
 no-line (read.Line x j) (inr k) l m e = omega arith
 
 -- the terms of a statement that is a line
 abbrev stepTerms : Step Line → List Term
 stepTerms stop = []
-stepTerms (bad e k) = []
+stepTerms (bad r) = []
 stepTerms (item l n) = termsOf l
 
 same-table : {k k' f f' n n' l l' : List ℕ} {b b' w w' : List ℤ} → k ≡ k' → f ≡ f' → n ≡ n' → b ≡ b' → w ≡ w' → l ≡ l'
@@ -280,8 +280,8 @@ module _ (o : Options) (s : List ℕ) (t₀ : Table) where
           }
 
     -- none is refused
-    good : (n k : ℕ) → statement o (drop at s) ≡ bad n k → ⊥
-    good n k e = never-broken (at-bad (statement o) inFile (statement-moves o) s at (i .pre) (i .stands) n k e) reads
+    good : (r : Refusal) → statement o (drop at s) ≡ bad r → ⊥
+    good r e = never-broken (at-bad (statement o) inFile (statement-moves o) s at (i .pre) (i .stands) r e) reads
 
     -- the next statement has filled the parts from `term` on
     module _ (r : StatementRead) (w : List ℤ) (c : List ℕ)
@@ -300,7 +300,7 @@ module _ (o : Options) (s : List ℕ) (t₀ : Table) where
           by : (x : Step Line) → statement o (drop at s) ≡ x
               → take (columnsRoom (drop term (t .weights)) (drop term (t .literals))) (statementMet o (drop at s)) ≡ stepTerms x
           by stop e = met [] (stop-met o (drop at s) e) (omega arith)
-          by (bad n k) e = absurd (good n k e)
+          by (bad r) e = absurd (good r e)
           by (item l m) e =
               let q = fills-room l m e in
               let n = fills-lengths in
@@ -348,7 +348,7 @@ module _ (o : Options) (s : List ℕ) (t₀ : Table) where
                   let z : items (i .pre) at ≡ items (ready .given) (ready .taken) =
                   sym (at-stop (statement o) inFile (statement-moves o) s at (i .pre) (i .stands) e) ∙ reads in
                   cc
-          by (bad n j) e = absurd (good n j e)
+          by (bad r) e = absurd (good r e)
           by (item l m) e = absurd (no-line r k (entryAlone l) m (left .answer ∙ ap briefStep e))
 
       -- a line of m bytes

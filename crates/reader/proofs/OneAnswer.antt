@@ -1,14 +1,10 @@
--- Each public function has one possible answer for each input, and leaves one content in each column: two that its contract allows
--- are equal.
+-- Each public function has one possible answer for each input, and leaves one content in each column: two that its
+-- contract allows are equal.
 use mathlib.Core.Path.{_≡_, sym, _∙_}
 use denote.Ref.{now}
 use Rattle.definitions.specs.Table.{table}
 use Rattle.definitions.proofs.Answers.{counted-known}
-use Rattle.reader.proofs.count.count_file.Reads as count-file
 use Rattle.reader.proofs.file.parse_opb_data.Reads as parse-opb-data
-
-pub count-file-one : (κs : _) (a : _) (r r' : _) (s s' : _) → count-file.Post κs a r s → count-file.Post κs a r' s' → r ≡ r'
-count-file-one κs a r r' s s' p q = counted-known r r' (p ∙ sym q)
 
 pub parse-opb-data-one : (κs : _) (a : _) (r r' : _) (s s' : _) → parse-opb-data.Post κs a r s → parse-opb-data.Post κs a r' s'
     → (r ≡ r')

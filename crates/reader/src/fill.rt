@@ -1,4 +1,5 @@
-// The second walk over a file that has read well, into columns that have room: what the first walk counted is filled. It asks for just that, so it is the crate's own. Assumes nothing.
+// The second walk over a file that has read well, into columns that have room: what the first walk counted is filled.
+// It asks for just that, so it is the crate's own. Assumes nothing.
 use definitions::Options;
 use statements::StatementRead;
 ghost use mathlib.Core.Path.{_≡_};

@@ -1,4 +1,5 @@
-// The house line of a refusal (01, "Examples on each side"): how long it is, and put into a lent output. Assumes nothing.
+// The house line of a refusal (01, "Examples on each side"): how long it is, and put into a lent output. Assumes
+// nothing.
 use outputs::Put;
 use puts::put_field;
 use puts::put_text;

@@ -1,18 +1,17 @@
 -- What an answer says of the statement that it is of.
 use Prim.Native.Nat.{ℕ, _+_, _≤_}
 use mathlib.Core.Path.{_≡_, refl, ap, _∙_}
-use mathlib.Core.List.{List, [], _∷_}
+use mathlib.Core.List.{List}
 use native.Mathlib.Omega.{arith}
 use lib.ListN.{length, drop}
-use Rattle.definitions.specs.Bytes.{blanks, begins, classOf}
-use Rattle.definitions.specs.Reader.{Got, none, got}
+use Rattle.definitions.specs.declared.Refusal.{Refusal}
 use Rattle.definitions.specs.Walk.{Step, stop, bad, item}
 use Rattle.definitions.specs.Row.{Line, comment, row, termsOf}
 use Rattle.definitions.specs.Table.{kindNumber}
-use Rattle.definitions.specs.Text.{statementBy, afterBlanks, statementAt, statement, inFile}
+use Rattle.definitions.specs.Text.{statement, inFile}
 use Rattle.definitions.specs.declared.Entry.{Entry}
 use Rattle.definitions.specs.declared.Options.{Options}
-use Rattle.definitions.proofs.Texts.{blanks-within}
+use Rattle.definitions.proofs.Stops.{bad-is-behind}
 use Rattle.definitions.proofs.Truths.{never}
 use Rattle.columns.specs.Entries.{entryOf, entryAlone}
 use Rattle.columns.specs.Kinds.{termsOfKind}
@@ -21,13 +20,13 @@ use Rattle.statements.specs.Brief.{entryAt, briefStep}
 
 pub brief-stop : (x : Step Line) → stop ≡ briefStep x → x ≡ stop
 brief-stop stop e = refl
-brief-stop (bad n k) e = never (cc)
+brief-stop (bad r) e = never (cc)
 brief-stop (item l n) e = never (cc)
 
-pub brief-bad : (x : Step Line) (n k : ℕ) → bad n k ≡ briefStep x → x ≡ bad n k
-brief-bad stop n k e = never (cc)
-brief-bad (bad m j) n k e = let p : m ≡ n = cc in let q : j ≡ k = cc in cc
-brief-bad (item l m) n k e = never (cc)
+pub brief-bad : (x : Step Line) (r : Refusal) → bad r ≡ briefStep x → x ≡ bad r
+brief-bad stop r e = never (cc)
+brief-bad (bad q) r e = cc
+brief-bad (item l m) r e = never (cc)
 
 -- a line of n bytes, as the code was told of it
 pub record LineTold (x : Step Line) (y : Entry) (n : ℕ) : Type 0 where
@@ -37,7 +36,7 @@ pub record LineTold (x : Step Line) (y : Entry) (n : ℕ) : Type 0 where
 
 pub line-told : (x : Step Line) (y : Entry) (n : ℕ) → item y n ≡ briefStep x → LineTold x y n
 line-told stop y n e = never (cc)
-line-told (bad j i) y n e = never (cc)
+line-told (bad r) y n e = never (cc)
 line-told (item l j) y n e = let p : y ≡ entryAlone l = cc in let q : j ≡ n = cc in record { line = l; is = ap (item l) q; told = p }
 
 -- with its terms counted
@@ -52,19 +51,8 @@ brief-item x y n e =
     record { line = t .line; is = t .is; counted = ap (λ (z : Entry). termsOfKind (z .kind) (z .count)) (t .told) ∙ line-terms (t .line) }
 
 -- a refusal's place is within the text
-place-within : (k : ℕ) (g : Got Line) (n j : ℕ) → afterBlanks k g ≡ bad n j → j ≡ k
-place-within k (none e) n j q = cc
-place-within k (got (comment f c b) m) n j q = never (cc)
-place-within k (got (row r) m) n j q = never (cc)
-
-statement-at-bad : (o : Options) (k : ℕ) (s : List ℕ) (n j : ℕ) → statementAt o k s ≡ bad n j → j ≡ k
-unfolding statementAt
-statement-at-bad o k [] n j e = never (cc)
-statement-at-bad o k (b ∷ s) n j e = place-within k (statementBy (begins (classOf b)) o (b ∷ s)) n j e
-
-pub bad-within : (o : Options) (s : List ℕ) (n j : ℕ) → statement o s ≡ bad n j → j ≤ length s
-unfolding statement
-bad-within o s n j e = omega (arith, statement-at-bad o (blanks s) (drop (blanks s) s) n j e, blanks-within s)
+pub bad-within : (o : Options) (s : List ℕ) (r : Refusal) → statement o s ≡ bad r → r .place ≤ length s
+bad-within o s r e = let h = bad-is-behind o s r e in omega (arith, h .0, h .1)
 
 -- a line has the same terms wherever it stands
 pub terms-in-file : (at : ℕ) (l : Line) → termsOf (inFile at l) ≡ termsOf l

@@ -4,8 +4,9 @@ use mathlib.Core.Path.{_≡_, refl, sym, ap, ap₂, _∙_}
 use mathlib.Core.List.{List, [], _∷_, _++_}
 use native.Mathlib.Omega.{arith}
 use lib.ListN.{length, drop, length-append, length-drop}
+use Rattle.definitions.specs.declared.Refusal.{Refusal}
 use Rattle.definitions.specs.Lists.{joined}
-use Rattle.definitions.specs.Refusal.{refusal}
+use Rattle.definitions.specs.Refusal.{further}
 use Rattle.definitions.specs.Walk.{Walked, stop, bad}
 use Rattle.definitions.specs.Row.{Line, termsOf}
 use Rattle.definitions.specs.Table.{refused, accepted, totalsOf, counted, allTerms}
@@ -51,15 +52,15 @@ module _ (o : Options) (s : List ℕ) (at rows terms : ℕ) (w : Counting o s at
       ap₂ (λ (n m : ℕ). accepted (totalsOf n m)) (w .counted) (w .termed)
       ∙ ap (λ (x : Walked Line). counted (linesOf x)) (sym (at-stop (statement o) inFile (statement-moves o) s at (w .lines) (w .stands) e))
 
-  module _ (n k : ℕ) (e : statement o (drop at s) ≡ bad n k) where
-    pub place-fits : at + k ≤ length s
-    place-fits = omega (arith, bad-within o (drop at s) n k e, length-drop at s, w .stands .within)
+  module _ (r : Refusal) (e : statement o (drop at s) ≡ bad r) where
+    pub place-fits : at + r .place ≤ length s
+    place-fits = omega (arith, bad-within o (drop at s) r e, length-drop at s, w .stands .within)
 
-    pub counting-bad : refused (refusal n (at + k)) ≡ counted (linesOf (statements o s))
+    pub counting-bad : refused (further at r) ≡ counted (linesOf (statements o s))
     unfolding statements
     counting-bad =
         ap (λ (x : Walked Line). counted (linesOf x))
-        (sym (at-bad (statement o) inFile (statement-moves o) s at (w .lines) (w .stands) n k e))
+        (sym (at-bad (statement o) inFile (statement-moves o) s at (w .lines) (w .stands) r e))
 
   module _ (c n : ℕ) (l : LineIs (statement o (drop at s)) c n) where
     pub line-has-byte : 0 < n

@@ -5,6 +5,7 @@ use mathlib.Core.List.{List, [], _∷_, map}
 use lib.ListN.{length, getD, drop, drop-of-length-le}
 use lib.Seq.{take-nil, drop-cons}
 use lib.IntN.{ℤ}
+use Rattle.definitions.specs.declared.Fault.{Fault}
 use Rattle.definitions.specs.Bytes.{blanks, begins, classOf}
 use Rattle.definitions.specs.Reader.{Got, none, got, Reader, chain, done, fail}
 use Rattle.definitions.specs.Walk.{Step, stop, bad, item}
@@ -16,7 +17,7 @@ use Rattle.definitions.specs.declared.Options.{Options}
 use Rattle.definitions.specs.declared.Beginning.{Beginning}
 use Rattle.definitions.specs.declared.Beginning.the-variants.{Comment, Objective, Constraint, Nothing}
 use Rattle.definitions.proofs.Chains.{chain-linked}
-use Rattle.definitions.proofs.Statements.{sized-got, remark-taken}
+use Rattle.definitions.proofs.Statements.{finished-got, remark-taken}
 use Rattle.definitions.proofs.Truths.{never}
 use Rattle.sums.specs.Met.{metTerms}
 use Rattle.sums.specs.Walked.{TermsPut}
@@ -35,7 +36,7 @@ module _ (o : Options) (s : List ℕ) (r : Row) (m : ℕ) where
   constraint-met e =
       let l = chain-linked (sum o) _ s r m e in
       let k = chain-linked comparison _ (drop (l .taken) s) r (l .behind) (l .there) in
-      let z = sized-got _ _ (l .given) (drop (k .taken) (drop (l .taken) s)) r (k .behind) (k .there) in
+      let z = finished-got o _ _ _ (l .given) (drop (k .taken) (drop (l .taken) s)) r (k .behind) (k .there) in
       met-sum o s (l .given) (l .taken) (l .here) ∙ ap (λ (x : Row). x .terms) (sym (z .0))
 
   goal-met : goal o s ≡ got r m → goalMet o s ≡ r .terms
@@ -44,7 +45,7 @@ module _ (o : Options) (s : List ℕ) (r : Row) (m : ℕ) where
       let i = chain-linked minBlanks _ s r m e in
       let l = chain-linked (sum o) _ (drop (i .taken) s) r (i .behind) (i .there) in
       let k = chain-linked ending _ (drop (l .taken) (drop (i .taken) s)) r (l .behind) (l .there) in
-      let z = sized-got _ _ (l .given) (drop (k .taken) (drop (l .taken) (drop (i .taken) s))) r (k .behind) (k .there) in
+      let z = finished-got o _ _ _ (l .given) (drop (k .taken) (drop (l .taken) (drop (i .taken) s))) r (k .behind) (k .there) in
       ap (λ (g : Got ℕ). behindMin o g s) (i .here) ∙ met-sum o (drop (i .taken) s) (l .given) (l .taken) (l .here)
       ∙ ap (λ (x : Row). x .terms) (sym (z .0))
 
@@ -106,7 +107,7 @@ module _ (o : Options) where
 
 -- `min:` is not there, or stands before a bytes
 module _ (o : Options) (s : List ℕ) where
-  pub goal-none : (e : ℕ) → minBlanks s ≡ none e → goalMet o s ≡ []
+  pub goal-none : (e : Fault) → minBlanks s ≡ none e → goalMet o s ≡ []
   unfolding goalMet
   goal-none e q = ap (λ (g : Got ℕ). behindMin o g s) q
 

@@ -1,26 +1,24 @@
--- Each public function has one possible answer for each input, and leaves one content in each column: two that its contract allows
--- are equal.
+-- Each public function has one possible answer for each input, and leaves one content in each column: two that its
+-- contract allows are equal.
 use mathlib.Core.Path.{_≡_, refl, sym, _∙_}
 use denote.Ref.{now}
-use Rattle.definitions.proofs.Answers.{length-known}
 use Rattle.definitions.proofs.Truths.{never}
 use Rattle.statements.specs.Said.{saidStatement}
 use Rattle.statements.specs.declared.row.StatementRead.{StatementRead}
 use Rattle.statements.specs.declared.row.StatementRead.the-variants.{End, Refused, Line}
 use Rattle.statements.proofs.statement.walk_statement.Reads as walk-statement
 use Rattle.statements.proofs.statement.opb_data.Reads as opb-data
-use Rattle.statements.proofs.terms.fill_terms.Reads as fill-terms
 
 -- an answer is known by what it says
 pub said-statement : (r r' : StatementRead) → saidStatement r ≡ saidStatement r' → r ≡ r'
 said-statement End End e = refl
-said-statement End (Refused i k) e = never (cc)
+said-statement End (Refused i) e = never (cc)
 said-statement End (Line x m) e = never (cc)
-said-statement (Refused i k) End e = never (cc)
-said-statement (Refused i k) (Refused j l) e = cc
-said-statement (Refused i j) (Line x m) e = never (cc)
+said-statement (Refused i) End e = never (cc)
+said-statement (Refused i) (Refused j) e = cc
+said-statement (Refused i) (Line x m) e = never (cc)
 said-statement (Line x m) End e = never (cc)
-said-statement (Line x m) (Refused i j) e = never (cc)
+said-statement (Line x m) (Refused i) e = never (cc)
 said-statement (Line x m) (Line y n) e = cc
 
 pub walk-statement-one : (κs : _) (a : _) (r r' : _) (s s' : _) → walk-statement.Post κs a r s → walk-statement.Post κs a r' s'
@@ -33,11 +31,3 @@ walk-statement-one κs a r r' s s' p q = (
 
 pub opb-data-one : (κs : _) (a : _) (r r' : _) (s s' : _) → opb-data.Post κs a r s → opb-data.Post κs a r' s' → r ≡ r'
 opb-data-one κs a r r' s s' p q = said-statement r r' (p ∙ sym q)
-
-pub fill-terms-one : (κs : _) (a : _) (r r' : _) (s s' : _) → fill-terms.Post κs a r s → fill-terms.Post κs a r' s'
-    → (r ≡ r') × (now (s .1 .1 .0) ≡ now (s' .1 .1 .0)) × (now (s .1 .1 .1 .0) ≡ now (s' .1 .1 .1 .0))
-fill-terms-one κs a r r' s s' p q = (
-  length-known r r' (p .answer ∙ sym (q .answer)),
-  p .filled .weights ∙ sym (q .filled .weights),
-  p .filled .literals ∙ sym (q .filled .literals),
-)

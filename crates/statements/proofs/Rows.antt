@@ -1,4 +1,5 @@
--- Laws of rows and statements, by what the code tells apart: what closes a row, a row behind its sum, a statement behind its blanks.
+-- Laws of rows and statements, by what the code tells apart: what closes a row, a row behind its sum, a statement
+-- behind its blanks.
 use Prim.Native.Nat.{ℕ, suc, _+_, _^_, _≤_, _<_}
 use mathlib.Core.Path.{_≡_, refl, sym, ap, _∙_}
 use mathlib.Core.Bool.{Bool, true, false, cond, _&&_}
@@ -10,67 +11,40 @@ use lib.Dec.{leb, eqb}
 use lib.IntN.{ℤ, pos}
 use lib.ListN.{length, getD, drop, length-drop, drop-of-length-le}
 use lib.Seq.{drop-cons, drop-drop}
+use Rattle.definitions.specs.declared.Fault.{Fault}
 use Rattle.definitions.specs.Limits.{weightLimit, inI64}
-use Rattle.definitions.specs.Refusal.{refuse, accept}
+use Rattle.definitions.specs.Refusal.{refusal, fault}
 use Rattle.definitions.specs.Bytes.{space, isAt, blanks, classOf, begins}
 use Rattle.definitions.specs.Reader.{Got, none, got, Reader, more, chain, done, fail}
 use Rattle.definitions.specs.Walk.{stop, bad, item}
-use Rattle.definitions.specs.Row.{Term, Kind, objective, Row, rowOf, Line, comment, row, sizes}
+use Rattle.definitions.specs.Row.{Term, Row, rowOf, Line, comment, row, sizes}
+use Rattle.definitions.specs.declared.Kind.{Kind}
+use Rattle.definitions.specs.declared.Kind.the-variants.{Objective as objective}
 use Rattle.definitions.specs.Table.{kindNumber}
-use Rattle.definitions.specs.Text.{sum, ending, Comparison, comparisonOf, comparison, kindOf, boundOf, sized, constraint, minBlanks}
+use Rattle.definitions.specs.Text.{sum, ending, Comparison, comparison, kindOf, boundOf, finished, constraint, minBlanks}
 use Rattle.definitions.specs.Text.{goal, spaceAfter, remark, asLine, statementBy, afterBlanks, statementAt, statement}
 use Rattle.definitions.specs.declared.Options.{Options}
-use Rattle.definitions.specs.declared.OpbOperator.{OpbOperator}
 use Rattle.definitions.specs.declared.Beginning.{Beginning}
 use Rattle.definitions.specs.declared.Beginning.the-variants.{Comment, Objective, Constraint, Nothing}
 use Rattle.definitions.proofs.Chains.{chain-none, chain-got, chain-linked}
-use Rattle.definitions.proofs.Statements.{RowTaken, remark-taken}
+use Rattle.definitions.proofs.Statements.{RowTaken, remark-taken, within-comparison, within-ending}
 use Rattle.definitions.proofs.Texts.{blanks-within}
 use Rattle.columns.specs.Sizes.{capped}
 use Rattle.beginnings.specs.Said.{saidComment}
 use Rattle.beginnings.specs.declared.CommentRead.{CommentRead}
 use Rattle.beginnings.specs.declared.CommentRead.the-variants as comment'
 use Rattle.columns.specs.Entries.{entryOf, entryAlone}
-use Rattle.frames.specs.Bounds.{compared}
-use Rattle.frames.proofs.Bounds.{compared-accept, compared-refuse}
-use Rattle.statements.specs.Brief.{briefRow, closedBy, endedBy, briefStep, rowAfter, commentAfter}
+use Rattle.closings.specs.Closed.{closedBy, endedBy}
+use Rattle.statements.specs.Brief.{briefRow, briefStep, rowAfter, commentAfter}
 use Rattle.statements.specs.Fitting.{Fitting, CommentFitting}
 use Rattle.definitions.proofs.Truths.{never}
 use Rattle.sums.proofs.Sums.{SumIs}
 
--- ---- behind a sum of so many terms, of the size and of n bytes
-
-and-false : (t : Bool) → t && false ≡ false
-and-false true = refl
-and-false false = refl
+-- ---- a row behind its sum
 
 and-true : (t : Bool) → t && true ≡ t
 and-true true = refl
 and-true false = refl
-
--- a comparison of m bytes
-module _ (terms size n : ℕ) (p : OpbOperator) (z : ℤ) (m : ℕ) where
-  pub closed-heavy : weightLimit < size → none 8 ≡ closedBy terms size n (got (comparisonOf p z) m)
-  closed-heavy h = rw (lt-leb size weightLimit h)
-
-  pub closed-beyond : refuse 8 ≡ compared (boundOf p z) → none 8 ≡ closedBy terms size n (got (comparisonOf p z) m)
-  closed-beyond e = rw (compared-refuse (boundOf p z) e, and-false (leb size weightLimit))
-
-  pub closed-row : (b : ℤ) → size ≤ weightLimit → accept b ≡ compared (boundOf p z)
-      → got (entryOf (kindNumber (kindOf p)) 0 terms b) (n + m) ≡ closedBy terms size n (got (comparisonOf p z) m)
-  closed-row b h e =
-      let a = compared-accept (boundOf p z) b e in
-      rw (le-leb size weightLimit h, a .0, a .1)
-
--- an ending of m bytes
-module _ (terms size n m : ℕ) where
-  pub ended-heavy : weightLimit < size → none 8 ≡ endedBy terms size n (got 0 m)
-  ended-heavy h = rw (lt-leb size weightLimit h)
-
-  pub ended-row : size ≤ weightLimit → got (entryOf (kindNumber objective) 0 terms (pos 0)) (n + m) ≡ endedBy terms size n (got 0 m)
-  ended-row h = rw (le-leb size weightLimit h)
-
--- ---- a row behind its sum
 
 -- a sum is above M where its capped size is
 capped-light : (n : ℕ) → leb (capped n) weightLimit ≡ leb n weightLimit
@@ -84,73 +58,100 @@ more-more : {A : Type 0} (n m : ℕ) (g : Got A) → more n (more m g) ≡ more 
 more-more n m (none e) = refl
 more-more n m (got a k) = ap (got a) (omega arith)
 
-sized-brief : (k : Kind) (b : ℤ) (ts : List Term) (s : List ℕ) (n : ℕ)
-    → cond (leb (capped (sizes ts)) weightLimit && inI64 b) (got (entryOf (kindNumber k) 0 (length ts) b) n) (none 8)
-    ≡ briefRow (more n (sized k b ts s))
-unfolding sized
-sized-brief k b ts s n = rw (capped-light (sizes ts)) (by (leb (sizes ts) weightLimit && inI64 b))
+-- m bytes of what closes it, behind n bytes
+finished-brief : (o : Options) (c : Bool) (k : Kind) (b : ℤ) (ts : List Term) (s : List ℕ) (n m : ℕ)
+    → more n (cond (leb (capped (sizes ts)) weightLimit && inI64 b) (got (entryOf (kindNumber k) 0 (length ts) b) m) (none (fault 8)))
+    ≡ briefRow (more (n + m) (finished o c k b ts s))
+unfolding finished
+finished-brief o c k b ts s n m = rw (capped-light (sizes ts)) (by (leb (sizes ts) weightLimit && inI64 b))
   where
-    by : (x : Bool)
-        → cond x (got (entryOf (kindNumber k) 0 (length ts) b) n) (none 8) ≡ briefRow (more n (cond x (got (rowOf k b ts) 0) (none 8)))
+    by : (x : Bool) → more n (cond x (got (entryOf (kindNumber k) 0 (length ts) b) m) (none (fault 8)))
+        ≡ briefRow (more (n + m) (cond x (got (rowOf k b ts) 0) (none (fault 8))))
     by true = ap (got (entryOf (kindNumber k) 0 (length ts) b)) (omega arith)
     by false = refl
 
 module _ (o : Options) (s : List ℕ) where
-  pub constraint-no-sum : (e : ℕ) → sum o s ≡ none e → none e ≡ briefRow (constraint o s)
+  pub constraint-no-sum : (e : Fault) → sum o s ≡ none e → none e ≡ briefRow (constraint o s)
   unfolding constraint
   constraint-no-sum e q = ap briefRow (sym (chain-none (sum o) _ s e q))
 
   constraint-by : (ts : List Term) (n : ℕ) → sum o s ≡ got ts n
-      → closedBy (length ts) (capped (sizes ts)) n (comparison (drop n s)) ≡ briefRow (constraint o s)
+      → more n (closedBy o (length ts) (capped (sizes ts)) (comparison (drop n s))) ≡ briefRow (constraint o s)
   unfolding constraint
   constraint-by ts n q = by (comparison (drop n s)) refl
     where
-      by : (g : Got Comparison) → comparison (drop n s) ≡ g → closedBy (length ts) (capped (sizes ts)) n g ≡ briefRow (constraint o s)
+      by : (g : Got Comparison) → comparison (drop n s) ≡ g
+          → more n (closedBy o (length ts) (capped (sizes ts)) g) ≡ briefRow (constraint o s)
       by (none e) f = ap briefRow (sym (chain-got (sum o) _ s ts n q ∙ ap (more n) (chain-none comparison _ (drop n s) e f)))
       by (got c m) f =
           let k = kindOf (c .operator) in
           let b = boundOf (c .operator) (c .number) in
           let t = drop m (drop n s) in
-          sized-brief k b ts t (n + m)
+          finished-brief o (c .semicolon) k b ts t n m
           ∙ ap briefRow (sym (chain-got (sum o) _ s ts n q ∙ ap (more n) (chain-got comparison _ (drop n s) c m f)
-          ∙ more-more n m (sized k b ts t)))
+          ∙ more-more n m (finished o (c .semicolon) k b ts t)))
 
   pub constraint-sum : (terms size n : ℕ) → SumIs o s terms size n
-      → closedBy terms size n (comparison (drop n s)) ≡ briefRow (constraint o s)
+      → more n (closedBy o terms size (comparison (drop n s))) ≡ briefRow (constraint o s)
   constraint-sum terms size n w = rw (← w .counted, ← w .sized) (constraint-by (w .terms) n (w .is))
 
-  pub goal-no-min : minBlanks s ≡ none 2 → none 2 ≡ briefRow (goal o s)
+  pub goal-no-min : minBlanks s ≡ none (fault 2) → none (fault 2) ≡ briefRow (goal o s)
   unfolding goal
-  goal-no-min q = ap briefRow (sym (chain-none minBlanks _ s 2 q))
+  goal-no-min q = ap briefRow (sym (chain-none minBlanks _ s (fault 2) q))
 
   -- behind `min:` and its blanks, a bytes
   module _ (k a : ℕ) (b : minBlanks s ≡ got k a) where
-    pub goal-no-sum : (e : ℕ) → sum o (drop a s) ≡ none e → none e ≡ briefRow (goal o s)
+    pub goal-no-sum : (e : Fault) → sum o (drop a s) ≡ none e → none e ≡ briefRow (goal o s)
     unfolding goal
     goal-no-sum e q = ap briefRow (sym (chain-got minBlanks _ s k a b ∙ ap (more a) (chain-none (sum o) _ (drop a s) e q)))
 
     goal-by : (ts : List Term) (n : ℕ) → sum o (drop a s) ≡ got ts n
-        → endedBy (length ts) (capped (sizes ts)) (a + n) (ending (drop (a + n) s)) ≡ briefRow (goal o s)
+        → more (a + n) (endedBy o (length ts) (capped (sizes ts)) (ending (drop (a + n) s))) ≡ briefRow (goal o s)
     unfolding goal inI64
     goal-by ts n q = rw (← drop-drop n a s) (by (ending (drop n (drop a s))) refl)
       where
-        by : (g : Got ℕ) → ending (drop n (drop a s)) ≡ g → endedBy (length ts) (capped (sizes ts)) (a + n) g ≡ briefRow (goal o s)
+        by : (g : Got Bool) → ending (drop n (drop a s)) ≡ g
+            → more (a + n) (endedBy o (length ts) (capped (sizes ts)) g) ≡ briefRow (goal o s)
         by (none e) f =
             ap briefRow (sym (chain-got minBlanks _ s k a b
             ∙ ap (more a) (chain-got (sum o) _ (drop a s) ts n q ∙ ap (more n) (chain-none ending _ (drop n (drop a s)) e f))))
         by (got c m) f =
             let t = drop m (drop n (drop a s)) in
-            let z = sized objective (pos 0) ts t in
-            ap (λ (x : Bool). cond x (got (entryOf (kindNumber objective) 0 (length ts) (pos 0)) (a + n + m)) (none 8))
+            let z = finished o c objective (pos 0) ts t in
+            ap (λ (x : Bool). more (a + n) (cond x (got (entryOf (kindNumber objective) 0 (length ts) (pos 0)) m) (none (fault 8))))
             (sym (and-true (leb (capped (sizes ts)) weightLimit)))
-            ∙ sized-brief objective (pos 0) ts t (a + n + m)
+            ∙ finished-brief o c objective (pos 0) ts t (a + n) m
             ∙ ap briefRow (sym (chain-got minBlanks _ s k a b
             ∙ ap (more a) (chain-got (sum o) _ (drop a s) ts n q ∙ ap (more n) (chain-got ending _ (drop n (drop a s)) c m f))
             ∙ more-more a n (more m z) ∙ more-more (a + n) m z))
 
     pub goal-sum : (terms size n : ℕ) → SumIs o (drop a s) terms size n
-        → endedBy terms size (a + n) (ending (drop (a + n) s)) ≡ briefRow (goal o s)
+        → more (a + n) (endedBy o terms size (ending (drop (a + n) s))) ≡ briefRow (goal o s)
     goal-sum terms size n w = rw (← w .counted, ← w .sized) (goal-by (w .terms) n (w .is))
+
+-- ---- what closes a row behind n bytes has a machine number of bytes
+limited : {A : Type 0} (x : Bool) (n m : ℕ) (a : A) → n + m < 2 ^ 64 → Fitting n (cond x (got a m) (none (fault 8)))
+limited true n m a h = h
+limited false n m a h = tt
+
+module _ (o : Options) (terms size n : ℕ) (s : List ℕ) (h : n + length s < 2 ^ 64) where
+  pub closed-fits : Fitting n (closedBy o terms size (comparison s))
+  closed-fits = by (comparison s) refl
+    where
+      by : (g : Got Comparison) → comparison s ≡ g → Fitting n (closedBy o terms size g)
+      by (none e) q = tt
+      by (got c m) q =
+          let b = boundOf (c .operator) (c .number) in
+          limited (leb size weightLimit && inI64 b) n m (entryOf (kindNumber (kindOf (c .operator))) 0 terms b)
+          (omega (arith, within-comparison .most s c m q))
+
+  pub ended-fits : Fitting n (endedBy o terms size (ending s))
+  ended-fits = by (ending s) refl
+    where
+      by : (g : Got Bool) → ending s ≡ g → Fitting n (endedBy o terms size g)
+      by (none e) q = tt
+      by (got c m) q =
+          limited (leb size weightLimit) n m (entryOf (kindNumber objective) 0 terms (pos 0)) (omega (arith, within-ending .most s c m q))
 
 -- ---- a statement behind its k blanks
 
@@ -214,7 +215,7 @@ module _ (o : Options) (s : List ℕ) (k : ℕ) (is : k ≡ blanks s) where
     pub statement-constraint : p ≡ Constraint → rowAfter k (briefRow (constraint o (drop k s))) ≡ briefStep (statement o s)
     statement-constraint e = row-after-is k (constraint o) (drop k s) ∙ ap briefStep (begun Constraint e)
 
-    pub statement-nothing : p ≡ Nothing → bad 2 k ≡ briefStep (statement o s)
+    pub statement-nothing : p ≡ Nothing → bad (refusal 2 k) ≡ briefStep (statement o s)
     unfolding fail
     statement-nothing e = ap briefStep (begun Nothing e)
 

@@ -3,4 +3,3 @@ pub mod Said
 pub mod Fitting
 pub mod Met
 pub mod Walked
-pub mod FillsTerms

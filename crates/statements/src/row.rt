@@ -1,85 +1,36 @@
-// What is answered of a row and of a statement, and what closes a row behind its sum (01, "The text"). Assumes nothing.
+// What is answered of a statement, and a row's or a comment's answer from further on (01, "The text"). Assumes nothing.
 use beginnings::CommentRead;
+use closings::RowRead;
 use definitions::COMMENT;
 use definitions::Entry;
-use definitions::OBJECTIVE;
-use definitions::WEIGHT_LIMIT;
-use frames::BoundRead;
-use frames::ComparisonRead;
-use frames::EndingRead;
+use definitions::Refusal;
 ghost use mathlib.Core.Path.{_≡_};
-ghost use Rattle.definitions.specs.Text.{comparison, ending};
-ghost use Rattle.statements.specs.Brief.{closedBy, endedBy, rowAfter, commentAfter};
+ghost use Rattle.definitions.specs.Reader.{more};
+ghost use Rattle.closings.specs.Closed.{saidRow};
+ghost use Rattle.statements.specs.Brief.{rowAfter, commentAfter};
 ghost use Rattle.statements.specs.Fitting.{Fitting, CommentFitting};
 ghost use Rattle.beginnings.specs.Said.{saidComment};
-ghost use Prim.Native.Nat.{_+_, _<_, _^_};
-ghost use lib.ListN.{length};
-ghost use Rattle.statements.specs.Said.{saidRow, saidStatement};
+ghost use Rattle.statements.specs.Said.{saidStatement};
 
-// A row, its terms counted and its first term still 0, with its bytes; or the number of a refusal.
-pub enum RowRead {
-    Row { entry: Entry, taken: usize },
-    Refused(u8),
-}
-
-// Nothing but blanks; a refusal, so many blanks on; a row of the table, with the bytes that its statement takes. A comment's first is counted from where the reading began,
-// and it has no terms.
+// Nothing but blanks; a refusal; a row of the table, with the bytes that its statement takes. A refusal's place and a
+// comment's first are counted from where the reading began; a comment has no terms.
 pub enum StatementRead {
     End,
-    Refused { number: u8, blanks: usize },
+    Refused(Refusal),
     Line { entry: Entry, taken: usize },
 }
 
-// What closes a constraint behind a sum of so many terms, of the size and of n bytes; 8 "after the ending of its statement".
-pub(crate) fn close_constraint(s: &[u8], terms: usize, size: u64, n: usize) -> RowRead
-    requires { ⌜ n + length (now s) < 2 ^ 64 ⌝ }
-    ensures { λ r. ⌜ saidRow r ≡ closedBy terms size n (comparison (now (s .entry))) ⌝ }
+// A row's answer, behind a sum of n bytes.
+pub(crate) fn behind(n: usize, r: RowRead) -> RowRead
+    requires { ⌜ Fitting n (saidRow r) ⌝ }
+    ensures { λ a. ⌜ saidRow a ≡ more n (saidRow r) ⌝ }
 {
-    match frames::read_comparison(s) {
-        ComparisonRead::Refused(e) => RowRead::Refused(e),
-        ComparisonRead::Comparison {
-            operator,
-            number,
-            taken,
-        } => {
-            if size > WEIGHT_LIMIT {
-                return RowRead::Refused(8);
-            }
-            let BoundRead::Bound(bound) = frames::bound_of(operator, number) else {
-                return RowRead::Refused(8);
-            };
-            RowRead::Row {
-                entry: Entry {
-                    kind: frames::kind_of(operator),
-                    first: 0,
-                    count: terms,
-                    bound,
-                },
-                taken: n + taken,
-            }
-        }
-    }
-}
-
-// The same for an objective, whose bound is 0.
-pub(crate) fn close_objective(s: &[u8], terms: usize, size: u64, n: usize) -> RowRead
-    requires { ⌜ n + length (now s) < 2 ^ 64 ⌝ }
-    ensures { λ r. ⌜ saidRow r ≡ endedBy terms size n (ending (now (s .entry))) ⌝ }
-{
-    let EndingRead::Ending(taken) = frames::read_ending(s) else {
-        return RowRead::Refused(7);
-    };
-    if size > WEIGHT_LIMIT {
-        return RowRead::Refused(8);
-    }
-    RowRead::Row {
-        entry: Entry {
-            kind: OBJECTIVE,
-            first: 0,
-            count: terms,
-            bound: 0,
+    match r {
+        RowRead::Refused(e) => RowRead::Refused(e),
+        RowRead::Row { entry, taken } => RowRead::Row {
+            entry,
+            taken: n + taken,
         },
-        taken: n + taken,
     }
 }
 
@@ -89,10 +40,10 @@ pub(crate) fn row_after(k: usize, r: RowRead) -> StatementRead
     ensures { λ a. ⌜ saidStatement a ≡ rowAfter k (saidRow r) ⌝ }
 {
     match r {
-        RowRead::Refused(e) => StatementRead::Refused {
-            number: e,
-            blanks: k,
-        },
+        RowRead::Refused(e) => StatementRead::Refused(Refusal {
+            number: e.number,
+            place: k as u64,
+        }),
         RowRead::Row { entry, taken } => StatementRead::Line {
             entry,
             taken: k + taken,
@@ -105,10 +56,10 @@ pub(crate) fn comment_after(k: usize, r: CommentRead) -> StatementRead
     ensures { λ a. ⌜ saidStatement a ≡ commentAfter k (saidComment r) ⌝ }
 {
     match r {
-        CommentRead::Missing => StatementRead::Refused {
+        CommentRead::Missing => StatementRead::Refused(Refusal {
             number: 2,
-            blanks: k,
-        },
+            place: k as u64,
+        }),
         CommentRead::Comment {
             first,
             count,

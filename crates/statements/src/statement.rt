@@ -1,10 +1,12 @@
-// One statement, walked: a comment, an objective or a constraint (01, "The text"). Each function answers what stands there, and leaves in the columns the terms that it met, as far as
-// both have room. Assumes nothing.
-use crate::row::RowRead;
+// One statement, walked: a comment, an objective or a constraint (01, "The text"). Each function answers what stands
+// there, and leaves in the columns the terms that it met, as far as both have room. Assumes nothing.
 use crate::row::StatementRead;
 use beginnings::MinRead;
+use closings::RowRead;
 use definitions::Beginning;
+use definitions::Fault;
 use definitions::Options;
+use definitions::Refusal;
 use sums::SumRead;
 ghost use mathlib.Core.Path.{_≡_};
 ghost use Rattle.definitions.specs.Text.{constraint, goal, statement};
@@ -19,11 +21,9 @@ fn constraint(s: &[u8], options: Options, weights: &mut [i64], literals: &mut [u
 {
     match sums::weighted_lit_sum(s, options, weights, literals) {
         SumRead::Refused(e) => RowRead::Refused(e),
-        SumRead::Sum { terms, size, taken } => crate::row::close_constraint(
-            &s[taken..],
-            terms,
-            size,
+        SumRead::Sum { terms, size, taken } => crate::row::behind(
             taken,
+            closings::close_constraint(&s[taken..], options, terms, size),
         ),
     }
 }
@@ -32,20 +32,20 @@ fn objective(s: &[u8], options: Options, weights: &mut [i64], literals: &mut [u3
     ensures { λ r. ⌜ RowWalked (goal options (now (s .entry))) (goalMet options (now (s .entry))) (now (weights .entry)) (now (literals .entry)) r (now (weights .exit)) (now (literals .exit)) ⌝ }
 {
     let MinRead::Min(k) = beginnings::read_min(s) else {
-        return RowRead::Refused(2);
+        return RowRead::Refused(Fault { number: 2 });
     };
     let a = k + 4;
     match sums::weighted_lit_sum(&s[a..], options, weights, literals) {
         SumRead::Refused(e) => RowRead::Refused(e),
         SumRead::Sum { terms, size, taken } => {
             let e = a + taken;
-            crate::row::close_objective(&s[e..], terms, size, e)
+            crate::row::behind(e, closings::close_objective(&s[e..], options, terms, size))
         }
     }
 }
 
-// "Blanks before a statement are skipped. At the end of the file that is a normal end." A step of the reader's own: what the text is refused for is its answer, and what it met before stands in
-// the columns.
+// "Blanks before a statement are skipped. At the end of the file that is a normal end." A step of the reader's own:
+// what the text is refused for is its answer, and what it met before stands in the columns.
 pub fn walk_statement(
     s: &[u8],
     options: Options,
@@ -54,7 +54,7 @@ pub fn walk_statement(
 ) -> StatementRead
     ensures { λ r. ⌜ StatementWalked options (now (s .entry)) (now (weights .entry)) (now (literals .entry)) r (now (weights .exit)) (now (literals .exit)) ⌝ }
 {
-    let k = symbols::blanks_of(s);
+    let k = blanks::blanks_of(s);
     if s.len() <= k {
         return StatementRead::End;
     }
@@ -68,10 +68,10 @@ pub fn walk_statement(
             k,
             constraint(&s[k..], options, weights, literals),
         ),
-        Beginning::Nothing => StatementRead::Refused {
+        Beginning::Nothing => StatementRead::Refused(Refusal {
             number: 2,
-            blanks: k,
-        },
+            place: k as u64,
+        }),
     }
 }
 

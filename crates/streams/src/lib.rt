@@ -1,5 +1,6 @@
-// Standard input into a lent buffer, text to standard output and standard error: what the listing programs share. No contract can say which bytes are read or
-// written; what is answered depends on the outside world, and lies within what was lent. Each function ends, given that each read and write returns.
+// Standard input into a lent buffer, text to standard output and standard error: what the listing programs share. No
+// contract can say which bytes are read or written; what is answered depends on the outside world, and lies within what
+// was lent. Each function ends, given that each read and write returns.
 use libc::STDERR_FILENO;
 use libc::STDIN_FILENO;
 use libc::STDOUT_FILENO;
@@ -7,7 +8,8 @@ use outputs::Put;
 ghost use lib.ListN.{length};
 ghost use Rattle.streams.specs.Within.{InputWithin, PrintedWithin};
 
-// The whole input is that many bytes at the front of the buffer; or it has more than the buffer holds; or a read failed.
+// The whole input is that many bytes at the front of the buffer; or it has more than the buffer holds; or a read
+// failed.
 pub enum Input {
     Bytes(usize),
     More,
@@ -70,7 +72,8 @@ pub fn say(text: &[u8]) {
     io::write_all(STDERR_FILENO, text);
 }
 
-// What was put into `out`, to standard output: whether all of it was written. Where nothing was put, or more than `out` holds, nothing is.
+// What was put into `out`, to standard output: whether all of it was written. Where nothing was put, or more than `out`
+// holds, nothing is.
 pub fn print_put(put: Put, out: &[u8]) -> bool
     ensures { λ r. ⌜ PrintedWithin put (length (now (out .entry))) r ⌝ }
 {

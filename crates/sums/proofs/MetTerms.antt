@@ -4,6 +4,7 @@ use mathlib.Core.Path.{_≡_, refl, sym, ap, _∙_}
 use mathlib.Core.List.{List, [], _∷_}
 use native.Mathlib.Omega.{arith}
 use lib.ListN.{length, drop}
+use Rattle.definitions.specs.declared.Refusal.{Refusal}
 use Rattle.definitions.specs.Reader.{got}
 use Rattle.definitions.specs.Row.{Term}
 use Rattle.definitions.specs.Text.{termStep, asGot, sum}
@@ -27,10 +28,10 @@ module _ {A : Type 0} (step : List ℕ → Step A) where
   met-stop [] e = refl
   met-stop (b ∷ s) e = rw (e, metFrom)
 
-  pub met-bad : (s : List ℕ) (n k : ℕ) → step s ≡ bad n k → metFrom step s 0 ≡ []
+  pub met-bad : (s : List ℕ) (r : Refusal) → step s ≡ bad r → metFrom step s 0 ≡ []
   unfolding metFrom
-  met-bad [] n k e = refl
-  met-bad (b ∷ s) n k e = rw (e, metFrom)
+  met-bad [] r e = refl
+  met-bad (b ∷ s) r e = rw (e, metFrom)
 
   pub met-item : Moves step → (s : List ℕ) (a : A) (n : ℕ) → step s ≡ item a n → metFrom step s 0 ≡ a ∷ metFrom step (drop n s) 0
   unfolding metFrom
@@ -61,7 +62,7 @@ module _ {A : Type 0} (step : List ℕ → Step A) where
           → ((k : ℕ) (ys : List A) (m : ℕ) → walk step anywhere s k (at + 1) ≡ items ys m → metFrom step s k ≡ ys)
           → metFrom step (b ∷ s) zero ≡ xs
       cases stop q ih = let z : items [] at ≡ items xs n = rw (q, walk) at e in rw (q, metFrom) (cc)
-      cases (bad i j) q ih = let z : broken _ ≡ items xs n = rw (q, walk) at e in never (cc)
+      cases (bad r) q ih = let z : broken _ ≡ items xs n = rw (q, walk) at e in never (cc)
       cases (item a m) q ih = rw (q, metFrom) (met-behind a s (pred m) (at + 1) xs n (rw (q, walk) at e) (ih (pred m)))
 
   pub met-all : (s : List ℕ) (xs : List A) (n : ℕ) → all step anywhere s ≡ items xs n → metFrom step s 0 ≡ xs

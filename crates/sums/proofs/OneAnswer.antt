@@ -1,5 +1,5 @@
--- The public function has one possible answer for each input, and leaves one content in each column: two that its contract allows
--- are equal.
+-- The public function has one possible answer for each input, and leaves one content in each column: two that its
+-- contract allows are equal.
 use mathlib.Core.Path.{_≡_, sym, ap, _∙_}
 use denote.Ref.{now}
 use Rattle.definitions.proofs.Truths.{never}

@@ -1,5 +1,5 @@
--- Laws of a run of plain terms (specs/Run.antt): a term's weight and code as the code computes them, what a run keeps, one plain
--- term more, and a walk over a sum that goes on by a run.
+-- Laws of a run of plain terms (specs/Run.antt): a term's weight and code as the code computes them, what a run keeps,
+-- one plain term more, and a walk over a sum that goes on by a run.
 use Prim.Native.Nat.{ℕ, zero, suc, _+_, _-_, _≤_, _<_, _^_}
 use mathlib.Core.Path.{_≡_, refl, sym, ap, _∙_}
 use mathlib.Core.Bool.{Bool, true, false}

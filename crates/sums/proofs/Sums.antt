@@ -5,6 +5,9 @@ use mathlib.Core.List.{List, [], _∷_, _++_}
 use native.Mathlib.Omega.{arith}
 use lib.ListN.{length, drop, length-append, length-drop}
 use lib.IntN.{natAbs}
+use Rattle.definitions.specs.Refusal.{faultOf}
+use Rattle.definitions.specs.declared.Fault.{Fault}
+use Rattle.definitions.specs.declared.Refusal.{Refusal}
 use Rattle.definitions.specs.Reader.{Got, none, got}
 use Rattle.definitions.specs.Walk.{stop, bad, item, anywhere}
 use Rattle.definitions.specs.Row.{Term, sizes}
@@ -46,9 +49,9 @@ module _ (o : Options) (s : List ℕ) (at count size : ℕ) (w : Summing o s at 
       ap₂ (λ (n m : ℕ). got (sumBrief n m) at) (w .counted) (w .sized)
       ∙ ap (λ g. summed (asGot g)) (sym (at-stop (termStep o) anywhere (term-moves o) s at (w .terms) (w .stands) e))
 
-  pub summing-bad : (n k : ℕ) → termStep o (drop at s) ≡ bad n k → none n ≡ summed (sum o s)
+  pub summing-bad : (r : Refusal) → termStep o (drop at s) ≡ bad r → none (faultOf r) ≡ summed (sum o s)
   unfolding sum
-  summing-bad n k e = ap (λ g. summed (asGot g)) (sym (at-bad (termStep o) anywhere (term-moves o) s at (w .terms) (w .stands) n k e))
+  summing-bad r e = ap (λ g. summed (asGot g)) (sym (at-bad (termStep o) anywhere (term-moves o) s at (w .terms) (w .stands) r e))
 
   module _ (t : Term) (n : ℕ) (e : termStep o (drop at s) ≡ item t n) where
     pub term-end-within : at + n ≤ length s
@@ -90,7 +93,7 @@ sum-of o s count size n e = by (sum o s) refl
           sized = ap (λ (x : SumBrief). x .size) b;
         }
 
-pub sum-refused : (o : Options) (s : List ℕ) (e : ℕ) → none e ≡ summed (sum o s) → sum o s ≡ none e
+pub sum-refused : (o : Options) (s : List ℕ) (e : Fault) → none e ≡ summed (sum o s) → sum o s ≡ none e
 sum-refused o s e q = by (sum o s) refl
   where
     by : (g : Got (List Term)) → sum o s ≡ g → sum o s ≡ none e

@@ -1,5 +1,5 @@
--- What the walk over a sum has counted and put so far: the loop invariant of `weighted_lit_sum` as a record, and what a term adds
--- to it. Before that, what holds of any column.
+-- What the walk over a sum has counted and put so far: the loop invariant of `weighted_lit_sum` as a record, and what a
+-- term adds to it. Before that, what holds of any column.
 use Prim.Native.Nat.{ℕ, _+_, _≤_, _<_, min}
 use mathlib.Core.Path.{_≡_, refl, sym, ap, _∙_}
 use mathlib.Core.Bool.{Bool, true, false, cond}
@@ -11,6 +11,8 @@ use lib.Dec.{ltb}
 use lib.ListN.{length, take, drop, set, length-append, length-map, length-set}
 use lib.Seq.{take-all, take-nil, take-append-le, drop-drop}
 use lib.IntN.{ℤ, natAbs}
+use Rattle.definitions.specs.Refusal.{faultOf}
+use Rattle.definitions.specs.declared.Refusal.{Refusal}
 use Rattle.definitions.specs.Lists.{over}
 use Rattle.definitions.specs.Row.{Term, weightOf, literalOf}
 use Rattle.definitions.specs.Stepping.{columnsRoom}
@@ -101,9 +103,9 @@ module _ (o : Options) (s : List ℕ) (w₀ : List ℤ) (l₀ : List ℕ) where
     walking-stop e =
         record { answer = summing-stop o s at count size (i .summing) e; filled = ended (met-stop (termStep o) (drop at s) e) }
 
-    pub walking-bad : (n k : ℕ) → termStep o (drop at s) ≡ bad n k → SumWalked o s w₀ l₀ (walked.Refused n) w l
-    walking-bad n k e =
-        record { answer = summing-bad o s at count size (i .summing) n k e; filled = ended (met-bad (termStep o) (drop at s) n k e) }
+    pub walking-bad : (r : Refusal) → termStep o (drop at s) ≡ bad r → SumWalked o s w₀ l₀ (walked.Refused (faultOf r)) w l
+    walking-bad r e =
+        record { answer = summing-bad o s at count size (i .summing) r e; filled = ended (met-bad (termStep o) (drop at s) r e) }
 
     -- one term more
     pub walking-term : (t : Term) (n : ℕ) → termStep o (drop at s) ≡ item t n

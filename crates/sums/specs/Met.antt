@@ -11,7 +11,7 @@ module _ {A : Type 0} (step : List ℕ → Step A) where
   unfoldable pub metFrom : List ℕ → ℕ → List A
   metFrom [] k = []
   metFrom (b ∷ s) (suc k) = metFrom s k
-  metFrom (b ∷ s) zero = elim (step (b ∷ s)) [ stop ↦ [] | bad n k ↦ [] | item a n ↦ a ∷ metFrom s (pred n) ]
+  metFrom (b ∷ s) zero = elim (step (b ∷ s)) [ stop ↦ [] | bad r ↦ [] | item a n ↦ a ∷ metFrom s (pred n) ]
 
 -- the terms of the sum at the front of a text, up to its end or its first refusal
 abbrev pub metTerms : Options → List ℕ → List Term

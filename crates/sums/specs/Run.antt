@@ -12,8 +12,8 @@ use Rattle.columns.specs.Sizes.{capped}
 use Rattle.sums.specs.Walked.{TermPut}
 use Rattle.sums.specs.declared.run.PlainRun.{PlainRun}
 
--- a walk that began with so many terms and so much size counted stands at an offset, with more counted, and has put each term that
--- it passed into the columns
+-- a walk that began with so many terms and so much size counted stands at an offset, with more counted, and has put
+-- each term that it passed into the columns
 module _ (o : Options) (s : List ℕ) (count₀ size₀ : ℕ) (w₀ : List ℤ) (l₀ : List ℕ) where
   pub data Ran : ℕ → ℕ → ℕ → List ℤ → List ℕ → Type 0 where
     begun : Ran 0 count₀ size₀ w₀ l₀

@@ -1,21 +1,23 @@
-// A sum: as many terms as there are (01, "The text"). Both walks over a file are one function here: it checks and counts the terms, and puts them into two lent
-// columns as far as these have room; the first walk lends none. Plain terms are passed by a loop of their own (run.rt). Assumes nothing.
+// A sum: as many terms as there are (01, "The text"). Both walks over a file are one function here: it checks and
+// counts the terms, and puts them into two lent columns as far as these have room; the first walk lends none. Plain
+// terms are passed by a loop of their own (run.rt). Assumes nothing.
 mod run;
 
+use definitions::Fault;
 use definitions::Options;
 use literals::Lit;
 use pieces::NextTerm;
 ghost use mathlib.Core.Path.{_≡_};
 ghost use Rattle.sums.specs.Walked.{TermPut, SumWalked};
 
-// How many terms, their absolute weights added up to a cap, and the bytes that they take; or the number of a refusal.
+// How many terms, their absolute weights added up to a cap, and the bytes that they take; or what is refused.
 pub enum SumRead {
     Sum {
         terms: usize,
         size: u64,
         taken: usize,
     },
-    Refused(u8),
+    Refused(Fault),
 }
 
 // A term at a place of two columns, if both have it.
@@ -28,7 +30,8 @@ fn put_term(weights: &mut [i64], literals: &mut [u32], at: usize, weight: i64, l
     }
 }
 
-// It answers what the sum is, and leaves in the columns the terms that it met, as far as both have room; so the loop is compiled once and as a whole for both walks.
+// It answers what the sum is, and leaves in the columns the terms that it met, as far as both have room; so the loop is
+// compiled once and as a whole for both walks.
 pub fn weighted_lit_sum(
     s: &[u8],
     options: Options,

@@ -16,7 +16,8 @@ ghost use Rattle.sums.specs.Walked.{TermPut};
 ghost use Rattle.plain.specs.Plain.{PlainFits, plainTerm};
 ghost use Rattle.sums.specs.Run.{RunSays};
 
-// How many terms are counted and what their absolute weights add up to, with those of a run; and the bytes that the run takes.
+// How many terms are counted and what their absolute weights add up to, with those of a run; and the bytes that the run
+// takes.
 pub struct PlainRun {
     pub terms: usize,
     pub size: u64,

@@ -1,4 +1,1 @@
-pub mod At
-pub mod Blanks
-pub mod Endings
 pub mod OneAnswer

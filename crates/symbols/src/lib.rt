@@ -1,8 +1,8 @@
-// Bytes at the front of a rest of the file: classes, blanks, line endings (01, "The text"). Assumes nothing.
+// The class of a byte, and what it begins where a statement is to begin (01, "The text"). Assumes nothing.
 use definitions::Beginning;
 use definitions::Class;
 ghost use mathlib.Core.Path.{_≡_};
-ghost use Rattle.definitions.specs.Bytes.{classOf, begins, blanks, lineEnding, untilEnding};
+ghost use Rattle.definitions.specs.Bytes.{classOf, begins};
 
 // "Every byte belongs to one class."
 pub fn class_of(b: u8) -> Class
@@ -48,61 +48,4 @@ pub fn beginning_of(b: u8) -> Beginning
     ensures { λ r. ⌜ r ≡ begins (classOf b) ⌝ }
 {
     begins(class_of(b))
-}
-
-// How many blanks stand at the front.
-pub fn blanks_of(s: &[u8]) -> usize
-    ensures { λ r. ⌜ r ≡ blanks (now (s .entry)) ⌝ }
-{
-    let mut i: usize = 0;
-    while i < s.len() {
-        let b = s[i];
-        if b != b' ' {
-            if b != b'\t' {
-                return i;
-            }
-        }
-        i += 1;
-    }
-    i
-}
-
-// How many bytes a line ending at the front has, 0 where none stands there.
-pub fn line_ending_of(s: &[u8]) -> usize
-    ensures { λ r. ⌜ r ≡ lineEnding (now (s .entry)) ⌝ }
-{
-    if s.len() == 0 {
-        return 0;
-    }
-    let b = s[0];
-    if b == b'\n' {
-        return 1;
-    }
-    if b == b'\r' {
-        if 1 < s.len() {
-            if s[1] == b'\n' {
-                return 2;
-            }
-        }
-    }
-    0
-}
-
-// How many bytes stand before the first line ending, or all. The walk looks for LF alone, and back at the one byte that may belong to it.
-pub fn until_ending_of(s: &[u8]) -> usize
-    ensures { λ r. ⌜ r ≡ untilEnding (now (s .entry)) ⌝ }
-{
-    let mut i: usize = 0;
-    while i < s.len() {
-        if s[i] == b'\n' {
-            if 0 < i {
-                if s[i - 1] == b'\r' {
-                    return i - 1;
-                }
-            }
-            return i;
-        }
-        i += 1;
-    }
-    i
 }

@@ -1,48 +1,20 @@
--- The answers of `next_item` and `next_token`, by what is found.
+-- The answers of `next_token`, by what is found.
 use Prim.Native.Nat.{ℕ, _-_}
-use mathlib.Core.Path.{_≡_, refl, sym, ap, _∙_}
+use mathlib.Core.Path.{_≡_, refl, ap, _∙_}
 use mathlib.Core.Bool.{Bool}
 use mathlib.Core.List.{List, [], _∷_}
-use native.Mathlib.Omega.{arith}
-use lib.ListN.{length, take, drop}
-use Rattle.definitions.specs.Values.{isSolid}
+use lib.ListN.{take, drop}
 use Rattle.definitions.proofs.Truths.{never}
 use Rattle.literals.specs.declared.Lit.{Lit}
+use Rattle.items.specs.Items.{Found, textAt, itemBy}
+use Rattle.items.specs.declared.NextItem.the-variants as item
+use Rattle.items.proofs.Found.{found-token, token-part}
 use Rattle.tokens.specs.Said.{saidToken, tokenSays}
-use Rattle.tokens.specs.Steps.{Found, nothing, line, word, textAt, endAt, itemBy, Step, ends, refuses, says, stepBy, stepAt, saidNext}
-use Rattle.tokens.specs.Steps.{metOf}
+use Rattle.tokens.specs.Steps.{Step, ends, refuses, says, stepBy, stepAt, saidNext, metOf}
 use Rattle.tokens.specs.declared.token.Token.{Token}
 use Rattle.tokens.specs.declared.token.Token.the-variants as said
-use Rattle.tokens.specs.declared.items.NextItem.the-variants as item
-use Rattle.tokens.specs.declared.items.Next.{Next}
-use Rattle.tokens.specs.declared.items.Next.the-variants as next
-use Rattle.tokens.proofs.Runs.{front-take}
-
--- ---- what an item that is met was found to be
-module _ (block : List ℕ) where
-  pub found-end : (f : Found) → item.End ≡ itemBy block f → nothing ≡ f
-  found-end nothing e = refl
-  found-end (line p) e = never (cc)
-  found-end (word p) e = never (cc)
-
-  pub found-line : (f : Found) (q : ℕ) → item.Untagged q ≡ itemBy block f → line q ≡ f
-  found-line nothing q e = never (cc)
-  found-line (line p) q e = let z : q ≡ p = cc in ap line z
-  found-line (word p) q e = never (cc)
-
-  pub found-token : (f : Found) (q end : ℕ) → item.Token q end ≡ itemBy block f → (word q ≡ f) × (end ≡ endAt block q)
-  found-token nothing q end e = never (cc)
-  found-token (line p) q end e = never (cc)
-  found-token (word p) q end e =
-      let z : q ≡ p = cc in
-      let y : end ≡ endAt block p = cc in
-      (ap word z, y ∙ ap (endAt block) (sym z))
-
--- the part of the block from a token's first byte to its end
-pub token-part : (block : List ℕ) (p end : ℕ) → end ≡ endAt block p → take (end - p) (drop p block) ≡ textAt block p
-token-part block p end e =
-    let k : end - p ≡ length (textAt block p) = omega (arith, e) in
-    ap (λ (n : ℕ). take n (drop p block)) k ∙ front-take isSolid (drop p block)
+use Rattle.tokens.specs.declared.next.Next.{Next}
+use Rattle.tokens.specs.declared.next.Next.the-variants as next
 
 -- ---- what it says
 met-says : (t : Token) (p e : ℕ) → saidNext (metOf t p e) ≡ stepBy p e (saidToken t)

@@ -1,15 +1,8 @@
--- Each public function has one possible answer for each input: two that its contract allows are equal. None changes what it is lent.
+-- Each public function has one possible answer for each input: two that its contract allows are equal. None changes
+-- what it is lent.
 use mathlib.Core.Path.{_≡_, sym, _∙_}
 use Rattle.tokens.proofs.Found.{said-next}
-use Rattle.tokens.proofs.form.form_of.Reads as form-of
-use Rattle.tokens.proofs.items.next_item.Reads as next-item
-use Rattle.tokens.proofs.items.next_token.Reads as next-token
-
-pub form-of-one : (κs : _) (a : _) (r r' : _) (s s' : _) → form-of.Post κs a r s → form-of.Post κs a r' s' → r ≡ r'
-form-of-one κs a r r' s s' p q = p ∙ sym q
-
-pub next-item-one : (κs : _) (a : _) (r r' : _) (s s' : _) → next-item.Post κs a r s → next-item.Post κs a r' s' → r ≡ r'
-next-item-one κs a r r' s s' p q = p ∙ sym q
+use Rattle.tokens.proofs.next.next_token.Reads as next-token
 
 pub next-token-one : (κs : _) (a : _) (r r' : _) (s s' : _) → next-token.Post κs a r s → next-token.Post κs a r' s' → r ≡ r'
 next-token-one κs a r r' s s' p q = said-next r r' (p ∙ sym q)

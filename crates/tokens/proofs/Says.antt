@@ -1,6 +1,6 @@
--- Laws for the code of tokens: what `wholeNumber`, `literalFor`, `signedToken` and `xToken` are in each case that the code tells apart. A
--- number that stopped at the cap says the same as
--- the number itself: the cap is no 0, and beyond every file number.
+-- Laws for the code of tokens: what `wholeNumber`, `literalFor`, `signedToken` and `xToken` are in each case that the
+-- code tells apart. A number that stopped at the cap says the same as the number itself: the cap is no 0, and beyond
+-- every file number.
 use Prim.Native.Nat.{ℕ, zero, suc, _≤_, _<_, min}
 use mathlib.Core.Path.{_≡_, refl, sym, ap, _∙_}
 use mathlib.Core.Logic.{_⊎_, inl, inr}

@@ -1,10 +1,6 @@
-// The form of a block of value lines, its lines and its tokens (02, A1): what is met next in a block, and what a token of it says. Assumes nothing.
-mod form;
-mod items;
+// What is met next in a block of value lines, with what a token of it says (02, A1). Assumes nothing.
+mod next;
 mod token;
 
-pub use form::form_of;
-pub use items::Next;
-pub use items::NextItem;
-pub use items::next_item;
-pub use items::next_token;
+pub use next::Next;
+pub use next::next_token;

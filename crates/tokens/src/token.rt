@@ -43,7 +43,8 @@ fn whole_number(s: &[u8]) -> Whole
     Whole::Number(size)
 }
 
-// The literal of the variable with that number: a file number, then a variable, then its literal; 5 where one of them is not there.
+// The literal of the variable with that number: a file number, then a variable, then its literal; 5 where one of them
+// is not there.
 fn literal_for(negative: bool, size: u64) -> Token
     ensures { λ r. ⌜ saidToken r ≡ literalFor negative size ⌝ }
 {

@@ -1,5 +1,5 @@
--- The literals that a block says, where none conflicts: no two are opposite, and none is against what was known. Read again where
--- they are true, they conflict with nothing.
+-- The literals that a block says, where none conflicts: no two are opposite, and none is against what was known. Read
+-- again where they are true, they conflict with nothing.
 use Prim.Native.Nat.{ℕ, _≤_}
 use mathlib.Core.Path.{_≡_, refl, sym, ap, _∙_}
 use mathlib.Core.Logic.{_⊎_, inl, inr}

@@ -1,5 +1,5 @@
--- A block whose form is one string: white space, zeros and ones, white space. What is met in it is that string, or a line without
--- `v`, and behind the string only white space stands.
+-- A block whose form is one string: white space, zeros and ones, white space. What is met in it is that string, or a
+-- line without `v`, and behind the string only white space stands.
 use Prim.Native.Nat.{ℕ, suc, _+_}
 use mathlib.Core.Path.{_≡_, refl, sym, ap, _∙_}
 use mathlib.Core.Bool.{Bool, true, false}
@@ -12,9 +12,9 @@ use lib.Seq.{drop-drop}
 use Rattle.definitions.specs.Bytes.{lf, letterX}
 use Rattle.definitions.specs.Values.{letterV, isWhite, isSolid, isBit, frontOf, behind, among, onlyBits, formOf, front, between, itemsFrom}
 use Rattle.definitions.specs.declared.Form.the-variants.{SignedNumbers, ZerosAndOnes, XTokens}
-use Rattle.tokens.specs.Steps.{line, word, spotOf, soughtOf, textAt, onFrom}
-use Rattle.tokens.proofs.Runs.{front-more, front-none}
-use Rattle.tokens.proofs.Spots.{lf-white, front-v, front-untagged, between-lf, between-white, between-solid}
+use Rattle.items.specs.Items.{line, word, spotOf, soughtOf, textAt, onFrom}
+use Rattle.items.proofs.Runs.{front-more, front-none}
+use Rattle.items.proofs.Spots.{lf-white, front-v, front-untagged, between-lf, between-white, between-solid}
 
 -- ---- what stands behind a run
 module _ (t : ℕ → Bool) (b : ℕ) (s : List ℕ) where

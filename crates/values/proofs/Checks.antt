@@ -14,13 +14,13 @@ use Rattle.definitions.specs.Values.{isSolid, frontOf, formOf, Item, untagged, 
 use Rattle.definitions.specs.Values.{anyConflict, hear}
 use Rattle.definitions.specs.declared.Form.{Form}
 use Rattle.definitions.specs.declared.Form.the-variants.{ZerosAndOnes}
-use Rattle.tokens.specs.Steps.{Found, nothing, line, word, soughtOf, textAt, endAt, onFrom}
+use Rattle.items.specs.Items.{Found, nothing, line, word, soughtOf, textAt, endAt, onFrom}
 use Rattle.values.specs.Strings.{behindOf, checkedAt, saidChecked, Fitting}
 use Rattle.values.specs.declared.string.Checked.{Checked}
 use Rattle.values.specs.declared.string.Checked.the-variants as checked
-use Rattle.tokens.proofs.Runs.{front-within}
-use Rattle.tokens.proofs.Spots.{TokenMet, token-met}
-use Rattle.tokens.proofs.Found.{token-part}
+use Rattle.items.proofs.Runs.{front-within}
+use Rattle.items.proofs.Spots.{TokenMet, token-met}
+use Rattle.items.proofs.Found.{token-part}
 use Rattle.values.proofs.Blocks.{none-behind}
 
 -- ---- the string at a place: 5, 22, or what stands behind it

@@ -1,6 +1,6 @@
--- What a block of value lines leaves, where it is accepted: "each variable met is known, with its value; every other bit stays; the
--- length is the greater of the kept one and one past each variable met" (02, A1); "what was known stays known, with its value; a
--- signed or x block read twice changes nothing more". Laws over the definitions.
+-- What a block of value lines leaves, where it is accepted: "each variable met is known, with its value; every other
+-- bit stays; the length is the greater of the kept one and one past each variable met" (02, A1); "what was known stays
+-- known, with its value; a signed or x block read twice changes nothing more". Laws over the definitions.
 use Prim.Native.Nat.{ℕ, _+_, _≤_}
 use mathlib.Core.Path.{_≡_, sym, ap, _∙_}
 use mathlib.Core.Logic.{_⊎_}
@@ -15,13 +15,15 @@ use Rattle.values.proofs.Rows.{at-least-kept, one-past, no-more, length
 use Rattle.values.proofs.Leaves.{known-met, true-met, value-stays, mark-stays, known-kept, value-kept, values-again}
 use Rattle.values.proofs.Leaves.{marks-again, valuing-again}
 
--- m is the greater of n and one past each variable of cs: none of them is greater, and every number of which that holds is at least m
+-- m is the greater of n and one past each variable of cs: none of them is greater, and every number of which that holds
+-- is at least m
 pub record Greatest (n : ℕ) (cs : List ℕ) (m : ℕ) : Type 0 where
   pub kept : n ≤ m
   pub past : (c : ℕ) → among c cs ≡ true → indexOf c + 1 ≤ m
   pub least : (k : ℕ) → n ≤ k → ((c : ℕ) → among c cs ≡ true → indexOf c + 1 ≤ k) → m ≤ k
 
--- the block s says the literals cs on top of the length m, the values vs and the known words js, and changes none of the three
+-- the block s says the literals cs on top of the length m, the values vs and the known words js, and changes none of
+-- the three
 pub record Unchanged (s : List ℕ) (m : ℕ) (vs js cs : List ℕ) : Type 0 where
   pub says : valuing s m vs js ≡ accepted cs
   pub reaches : newLength m (valuing s m vs js) ≡ accepted m

@@ -1,4 +1,5 @@
--- What an accepted block leaves in the two rows, over the literals cs that it says: what Kept.antt says, with its proofs.
+-- What an accepted block leaves in the two rows, over the literals cs that it says: what Kept.antt says, with its
+-- proofs.
 use Prim.Native.Nat.{ℕ, _*_, _≤_, _<_, min}
 use mathlib.Core.Path.{_≡_, refl, sym, ap, _∙_}
 use mathlib.Core.Logic.{_⊎_, inl, inr}

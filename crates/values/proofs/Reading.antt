@@ -1,5 +1,5 @@
--- What a block that was heard makes of a call: refused as it was heard; 12, where the shorter row has too few words; or both rows
--- with their bits. And what is heard of signed numbers and `x` tokens, by the answer of `heard::hear`.
+-- What a block that was heard makes of a call: refused as it was heard; 12, where the shorter row has too few words; or
+-- both rows with their bits. And what is heard of signed numbers and `x` tokens, by the answer of `heard::hear`.
 use Prim.Native.Nat.{ℕ, _<_, min}
 use mathlib.Core.Path.{_≡_, refl, sym, ap, _∙_}
 use mathlib.Core.Bool.{Bool, true, false, cond, not}
@@ -14,12 +14,11 @@ use Rattle.definitions.specs.Values.{Item, front, itemsFrom, itemsOf, formOf, h
 use Rattle.definitions.specs.Values.{valued, marked, valuesAfter, knownAfter}
 use Rattle.definitions.proofs.Truths.{never}
 use Rattle.tokens.specs.Said.{formBy}
-use Rattle.heard.specs.Flat.{codeIn, saidBy}
+use Rattle.settling.specs.Flat.{codeIn, saidBy}
 use Rattle.heard.proofs.Hearing.{said-heard}
-use Rattle.values.specs.Said.{saidRead}
 use Rattle.values.specs.Reads.{ReadsValues}
-use Rattle.values.specs.declared.ValuesRead.{ValuesRead}
-use Rattle.values.specs.declared.ValuesRead.the-variants as read
+use Rattle.definitions.specs.Answers.{saidLength}
+use Rattle.definitions.specs.declared.Length.{Length}
 
 -- ---- from what was heard to the call
 
@@ -45,10 +44,10 @@ unfolding marked
 marked-nothing ks = refl
 
 -- an empty block
-pub read-empty : (s : List ℕ) (n : ℕ) (ws ks : List ℕ) (r : ValuesRead) → length s ≡ 0 → r ≡ read.Refused 20 0
+pub read-empty : (s : List ℕ) (n : ℕ) (ws ks : List ℕ) (r : Length) → length s ≡ 0 → saidLength r ≡ refused (refusal 20 0)
     → ReadsValues s n ws ks r ws ks
 unfolding valuing held hear valuesAfter knownAfter
-read-empty [] n ws ks r e q = record { answer = ap saidRead q; values = refl; known = refl }
+read-empty [] n ws ks r e q = record { answer = q; values = refl; known = refl }
 read-empty (b ∷ s) n ws ks r e q = absurd (omega arith)
 
 module _ (s : List ℕ) (n : ℕ) (ws ks : List ℕ) where
@@ -66,20 +65,21 @@ module _ (s : List ℕ) (n : ℕ) (ws ks : List ℕ) where
         by (b ∷ s) h = refl
 
     -- refused as it was heard
-    pub read-refused : (number place : ℕ) (r : ValuesRead) → Heard ≡ refused (refusal number place) → r ≡ read.Refused number place
+    pub read-refused : (number place : ℕ) (r : Length) → Heard ≡ refused (refusal number place)
+        → saidLength r ≡ refused (refusal number place)
         → ReadsValues s n ws ks r ws ks
     unfolding held valuesAfter knownAfter
     read-refused number place r h q =
         let v : valuing s n ws ks ≡ refused (refusal number place) = whole ∙ ap (held n (min (length ws) (length ks))) h in
         record {
-          answer = ap saidRead q ∙ sym (ap (newLength n) v);
+          answer = q ∙ sym (ap (newLength n) v);
           values = sym (ap (λ (x : Outcome (List ℕ)). valuesAfter x ws) v);
           known = sym (ap (λ (x : Outcome (List ℕ)). knownAfter x ks) v);
         }
 
     module _ (cs : List ℕ) (h : Heard ≡ accepted cs) (m needed : ℕ) (long : m ≡ lengthAfter n cs) (words : needed ≡ wordsFor m) where
       -- too few words
-      pub read-short : (r : ValuesRead) → leb needed (min (length ws) (length ks)) ≡ false → r ≡ read.Refused 12 needed
+      pub read-short : (r : Length) → leb needed (min (length ws) (length ks)) ≡ false → saidLength r ≡ refused (refusal 12 needed)
           → ReadsValues s n ws ks r ws ks
       unfolding held valuesAfter knownAfter
       read-short r f q =
@@ -87,7 +87,7 @@ module _ (s : List ℕ) (n : ℕ) (ws ks : List ℕ) where
           let v : valuing s n ws ks ≡ refused (refusal 12 needed) =
           whole ∙ ap (held n (min (length ws) (length ks))) h ∙ short (lengthAfter n cs) e f in
           record {
-            answer = ap saidRead q ∙ sym (ap (newLength n) v);
+            answer = q ∙ sym (ap (newLength n) v);
             values = sym (ap (λ (x : Outcome (List ℕ)). valuesAfter x ws) v);
             known = sym (ap (λ (x : Outcome (List ℕ)). knownAfter x ks) v);
           }
@@ -98,7 +98,7 @@ module _ (s : List ℕ) (n : ℕ) (ws ks : List ℕ) where
           short l e f = rw (sym e, f)
 
       -- both rows with their bits
-      pub read-fine : (r : ValuesRead) (ws′ ks′ : List ℕ) → leb needed (min (length ws) (length ks)) ≡ true → r ≡ read.Length m
+      pub read-fine : (r : Length) (ws′ ks′ : List ℕ) → leb needed (min (length ws) (length ks)) ≡ true → saidLength r ≡ accepted m
           → ws′ ≡ valued cs ws → ks′ ≡ marked cs ks
           → ReadsValues s n ws ks r ws′ ks′
       unfolding held valuesAfter knownAfter
@@ -106,7 +106,7 @@ module _ (s : List ℕ) (n : ℕ) (ws ks : List ℕ) where
           let e : needed ≡ wordsFor (lengthAfter n cs) = words ∙ ap wordsFor long in
           let v : valuing s n ws ks ≡ accepted cs = whole ∙ ap (held n (min (length ws) (length ks))) h ∙ fine (lengthAfter n cs) e f in
           record {
-            answer = ap saidRead q ∙ ap accepted long ∙ sym (ap (newLength n) v);
+            answer = q ∙ ap accepted long ∙ sym (ap (newLength n) v);
             values = x ∙ sym (ap (λ (z : Outcome (List ℕ)). valuesAfter z ws) v);
             known = y ∙ sym (ap (λ (z : Outcome (List ℕ)). knownAfter z ks) v);
           }

@@ -1,5 +1,5 @@
--- What literals leave in one row of words, and the length they reach: a bit that they agree on is made that, every other bit stays,
--- and making what stands there already changes nothing.
+-- What literals leave in one row of words, and the length they reach: a bit that they agree on is made that, every
+-- other bit stays, and making what stands there already changes nothing.
 use Prim.Native.Nat.{ℕ, _+_, _/_, _≤_, _<_, max}
 use mathlib.Core.Path.{_≡_, refl, sym, ap, _∙_}
 use mathlib.Core.Bool.{Bool, true, false, cond, not, _||_, or-true}

@@ -1,5 +1,5 @@
--- One string of zeros and ones: its variables are all different, so that only the known words conflict with it; and in a block of
--- that form nothing else is met but a line without `v`.
+-- One string of zeros and ones: its variables are all different, so that only the known words conflict with it; and in
+-- a block of that form nothing else is met but a line without `v`.
 use Prim.Native.Nat.{ℕ, suc, _+_, _-_, _≤_, _<_}
 use mathlib.Core.Path.{_≡_, refl, sym, ap, _∙_}
 use mathlib.Core.Bool.{Bool, true, false, not, _&&_, _||_}

@@ -8,7 +8,7 @@ use Rattle.definitions.specs.Limits.{indexLimit}
 use Rattle.definitions.specs.Refusal.{refusal}
 use Rattle.definitions.specs.Table.{Outcome, refused, accepted}
 use Rattle.definitions.specs.Values.{appended, anyConflict}
-use Rattle.tokens.specs.Steps.{Found, nothing, line, word, soughtOf, textAt, endAt, onFrom}
+use Rattle.items.specs.Items.{Found, nothing, line, word, soughtOf, textAt, endAt, onFrom}
 use Rattle.values.specs.declared.string.Checked.{Checked}
 use Rattle.values.specs.declared.string.Checked.the-variants as checked
 

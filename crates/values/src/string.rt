@@ -1,11 +1,12 @@
-// One string of zeros and ones (02, A1), which appends at the length. Its variables are all different, so that only the known words can conflict with it. Assumes nothing.
+// One string of zeros and ones (02, A1), which appends at the length. Its variables are all different, so that only the
+// known words can conflict with it. Assumes nothing.
 use bits::is_otherwise;
 use bits::make_true;
+use items::NextItem;
+use items::next_item;
 use literals::Lit;
 use literals::LitRead;
 use literals::Var;
-use tokens::NextItem;
-use tokens::next_item;
 ghost use mathlib.Core.Path.{_≡_};
 ghost use mathlib.Core.List.{[]};
 ghost use Prim.Native.Nat.{_+_, _≤_, _<_};
@@ -15,7 +16,7 @@ ghost use Rattle.definitions.specs.Limits.{indexLimit};
 ghost use Rattle.definitions.specs.Literal.{codeOf};
 ghost use Rattle.definitions.specs.Values.{front, itemsFrom, formOf, hear, appended, anyConflict, valued, marked};
 ghost use Rattle.definitions.specs.declared.Form.the-variants.{ZerosAndOnes};
-ghost use Rattle.tokens.specs.Steps.{soughtOf, endAt, onFrom};
+ghost use Rattle.items.specs.Items.{soughtOf, endAt, onFrom};
 ghost use Rattle.values.specs.Strings.{behindOf, checkedAt, saidChecked, Fitting};
 
 // 20, 5 or 22; no string; or where it stands.
@@ -79,7 +80,8 @@ pub(crate) fn append(text: &[u8], kept: u64, values: &mut [u64], known: &mut [u6
     }
 }
 
-// What stands behind the string: nothing, or a line without `v`. Another token does not, since the block has one string only.
+// What stands behind the string: nothing, or a line without `v`. Another token does not, since the block has one string
+// only.
 fn check_behind(block: &[u8], place: usize, end: usize) -> Checked
     ensures { λ r. ⌜ r ≡ behindOf place end (soughtOf (onFrom (now (block .entry)) end)) ⌝ }
 {

@@ -1,7 +1,4 @@
 // A number as a file number, an index, a code and a byte. Assumes nothing.
-use crate::shown::say;
-use crate::shown::say_code;
-use crate::shown::say_whether;
 use definitions::Beginning;
 use definitions::Class;
 use literals::FileNumber;
@@ -10,6 +7,9 @@ use literals::Lit;
 use literals::LitRead;
 use literals::Var;
 use literals::VarRead;
+use vectors_lines::say;
+use vectors_lines::say_code;
+use vectors_lines::say_whether;
 
 fn class_mark(c: Class) -> u8 {
     match c {
@@ -108,8 +108,8 @@ fn show(size: u64, first: u32) {
 }
 
 pub(crate) fn symbol_case(line: &[u8]) -> bool {
-    let n = crate::words::natural_at(line, 2, 18_446_744_073_709_551_615);
-    let first = crate::words::natural_at(line, n.next, 4_294_967_295);
+    let n = vectors_lines::natural_at(line, 2, 18_446_744_073_709_551_615);
+    let first = vectors_lines::natural_at(line, n.next, 4_294_967_295);
     if first.next != line.len() {
         return false;
     }

@@ -1,26 +1,25 @@
 // Runs cases through the proved code. Standard input has a case to a line, standard output gets a line for each: what
-// was answered, and what everything lent holds afterwards. A line that is no case is answered `bad case` and its number,
-// from 1. The program has no data of its own: tests/vectors makes the cases and, from 01 and 02 alone, the answers.
+// was answered, and what everything lent holds afterwards. A line that is no case is answered `bad case` and its
+// number, from 1. The program has no data of its own: tests/vectors makes the cases and, from 01 and 02 alone, the
+// answers.
 //
 // A case is a letter and numbers, each parted from the next by one space. A column is the count of its entries, and the
 // entries; so are BYTES. TABLE is the columns of kinds, firsts, counts, bounds, weights and literals.
 //
 //   s NUMBER FIRST               a number as file number, index, code and byte (codes.rt)
-//   t BYTES                      the front of a text: blanks, line ending, bytes up to one, number, digits (texts.rt)
-//   p NUMBER COUNT AT BYTES      a number, a count and a text, each printed into 24 bytes from a place on (texts.rt)
-//   v LENGTH BYTES VALUES KNOWN  a block of value lines on top of what is known (blocks.rt)
-//   r SIZES FIRST BYTES          a file read into columns of so many entries (tables.rt, also what follows)
+//   t BYTES                      the front of a text: blanks, line ending, bytes up to one, number, digits
+//   p NUMBER COUNT AT BYTES      a number, a count and a text, each printed into 24 bytes from a place on
+//   v LENGTH BYTES VALUES KNOWN  a block of value lines on top of what is known
+//   r SIZES FIRST BYTES          a file read into columns of so many entries
 //   w TABLE FIRST PLAIN ROOM BYTES  the table written, with BYTES as the comments' text; PLAIN is 1 for no-negated mode
 //   n TABLE FIRSTS LITERALS      the table normalised into columns of which two have so many entries
 //   e TABLE ROW VALUES KNOWN     a row evaluated, also where only some variables are known, and judged
 //
+// t, p, v and r are run by crates/vectors_texts, w, n and e by crates/vectors_tables; how a line is read and an answer
+// printed is in crates/vectors_lines.
+//
 // Assumes nothing but what libc says of itself.
-mod blocks;
 mod codes;
-mod shown;
-mod tables;
-mod texts;
-mod words;
 
 use streams::Input;
 ghost use mathlib.Core.Path.{_≡_};
@@ -53,21 +52,21 @@ fn is_case(line: &[u8]) -> bool {
     let command = line[0];
     match command {
         b's' => codes::symbol_case(line),
-        b't' => texts::text_case(line),
-        b'p' => texts::print_case(line),
-        b'v' => blocks::block_case(line),
-        b'r' => tables::read_case(line),
-        _ => tables::table_case(command, line),
+        b't' => vectors_texts::text_case(line),
+        b'p' => vectors_texts::print_case(line),
+        b'v' => vectors_texts::block_case(line),
+        b'r' => vectors_texts::read_case(line),
+        _ => vectors_tables::table_case(command, line),
     }
 }
 
 fn run_case(line: &[u8], number: usize) {
-    shown::say(b"=");
+    vectors_lines::say(b"=");
     if !is_case(line) {
-        shown::say(b" bad case");
-        shown::say_size(number);
+        vectors_lines::say(b" bad case");
+        vectors_lines::say_size(number);
     }
-    shown::say(b"\n");
+    vectors_lines::say(b"\n");
 }
 
 fn run_cases(s: &[u8]) {

@@ -8,7 +8,7 @@ use native.Mathlib.Omega.{arith}
 use lib.Dec.{leb}
 use lib.ListN.{length, drop}
 use Rattle.definitions.specs.Limits.{fileLimit}
-use Rattle.definitions.specs.Refusal.{refusal}
+use Rattle.definitions.specs.Refusal.{refusal, further}
 use Rattle.definitions.specs.declared.Refusal.{Refusal}
 use Rattle.definitions.specs.Walk.{Step, stop, bad, item}
 use Rattle.definitions.specs.Row.{Line}
@@ -49,7 +49,7 @@ module _ (o : Options) (s : List ℕ) where
             → accepted (totalsOf rows terms) ≡ counted (file o s)
         by false p x h q = never (cc)
         by true p stop h q = counting-stop o s at rows terms w h ∙ whole p
-        by true p (bad n k) h q = never (cc)
+        by true p (bad b) h q = never (cc)
         by true p (item l m) h q = never (cc)
 
     pub tally-refused : (r : Refusal) → stopped r ≡ briefStepped (stepAt o s at) → refused r ≡ counted (file o s)
@@ -60,7 +60,7 @@ module _ (o : Options) (s : List ℕ) where
             → stopped r ≡ briefStepped (cond t (steppedBy at x) (stopped (refusal 1 0))) → refused r ≡ counted (file o s)
         by false i x h q = let z : r ≡ refusal 1 0 = cc in ap refused z ∙ ap counted (sym (long-is i))
         by true i stop h q = never (cc)
-        by true i (bad m k) h q = let z : r ≡ refusal m (at + k) = cc in ap refused z ∙ counting-bad o s at rows terms w m k h ∙ whole i
+        by true i (bad b) h q = let z : r ≡ further at b = cc in ap refused z ∙ counting-bad o s at rows terms w b h ∙ whole i
         by true i (item l m) h q = never (cc)
 
     -- ---- a line, as the code was told of it
@@ -81,7 +81,7 @@ module _ (o : Options) (s : List ℕ) where
               → stepped x next ≡ briefStepped (cond t (steppedBy at y) (stopped (refusal 1 0))) → LineAt
           by false y h q = never (cc)
           by true stop h q = never (cc)
-          by true (bad i j) h q = never (cc)
+          by true (bad b) h q = never (cc)
           by true (item l m) h q =
               let z : x ≡ entryAlone (inFile at l) = cc in
               record {

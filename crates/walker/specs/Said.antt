@@ -1,4 +1,5 @@
--- What each case of a step's answer says: 01's number and values, as the definitions give them; and what of a line is told.
+-- What each case of a step's answer says: 01's number and values, as the definitions give them; and what of a line is
+-- told.
 use Rattle.definitions.specs.Row.{Line}
 use Rattle.definitions.specs.Stepping.{Stepped, ended, stopped, stepped}
 use Rattle.definitions.specs.declared.Entry.{Entry}

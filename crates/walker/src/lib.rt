@@ -5,7 +5,6 @@ mod steps;
 mod tally;
 
 pub use steps::Stepped;
-pub use steps::fill_at;
 pub use steps::offset_after;
 pub use steps::step_at;
 pub use tally::count_steps;

@@ -1,16 +1,16 @@
-// One step on a file, at an offset: the statement there, checked, or its terms into lent columns. Nothing is kept between two steps but the offset. Assumes nothing.
+// One step on a file, at an offset: the statement there, checked. Nothing is kept between two steps but the offset.
+// Assumes nothing.
 use definitions::Entry;
 use definitions::FILE_LIMIT;
-use definitions::Length;
 use definitions::Options;
 use definitions::Refusal;
 use statements::StatementRead;
 ghost use mathlib.Core.Path.{_≡_};
-ghost use Rattle.definitions.specs.Stepping.{stepAt, offsetAfter, termsAtStep};
-ghost use Rattle.statements.specs.FillsTerms.{FillsTerms};
+ghost use Rattle.definitions.specs.Stepping.{stepAt, offsetAfter};
 ghost use Rattle.walker.specs.Said.{saidStepped, briefStepped};
 
-// Nothing but blanks; a refusal with its place; a row of the table, with the offset after its statement. A comment's first is its offset in the file, any other row's is 0.
+// Nothing but blanks; a refusal with its place; a row of the table, with the offset after its statement. A comment's
+// first is its offset in the file, any other row's is 0.
 pub enum Stepped {
     End,
     Refused(Refusal),
@@ -32,9 +32,9 @@ pub fn step_at(file: &[u8], options: Options, at: usize) -> Stepped
     }
     match statements::opb_data(&file[at..], options) {
         StatementRead::End => Stepped::End,
-        StatementRead::Refused { number, blanks } => Stepped::Refused(Refusal {
-            number,
-            place: (at + blanks) as u64,
+        StatementRead::Refused(refusal) => Stepped::Refused(Refusal {
+            number: refusal.number,
+            place: at as u64 + refusal.place,
         }),
         StatementRead::Line { entry, taken } => {
             let mut placed = entry;
@@ -55,27 +55,5 @@ pub fn offset_after(stepped: Stepped, at: usize) -> usize
         Stepped::End => at,
         Stepped::Refused(_) => at,
         Stepped::Line { entry: _, next } => next,
-    }
-}
-
-// The terms of the statement at an offset; 10 where they do not fit.
-pub fn fill_at(
-    file: &[u8],
-    options: Options,
-    at: usize,
-    weights: &mut [i64],
-    literals: &mut [u32],
-) -> Length
-    ensures { λ r. ⌜ FillsTerms (termsAtStep options (now (file .entry)) at (now (weights .entry)) (now (literals .entry))) (now (weights .entry)) (now (literals .entry)) r (now (weights .exit)) (now (literals .exit)) ⌝ }
-{
-    match step_at(file, options, at) {
-        Stepped::End => Length::Is(0),
-        Stepped::Refused(refusal) => Length::Refused(refusal),
-        Stepped::Line { entry: _, next: _ } => statements::fill_terms(
-            &file[at..],
-            options,
-            weights,
-            literals,
-        ),
     }
 }

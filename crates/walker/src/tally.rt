@@ -1,4 +1,5 @@
-// A whole walk of steps: every statement is checked, rows and terms are counted. Nothing is kept but the offset and the counts. Assumes nothing.
+// A whole walk of steps: every statement is checked, rows and terms are counted. Nothing is kept but the offset and the
+// counts. Assumes nothing.
 use crate::steps::Stepped;
 use definitions::Counted;
 use definitions::Options;

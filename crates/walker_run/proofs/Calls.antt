@@ -1,6 +1,6 @@
--- The calls of the walker's functions, as the walks of this program use them: what each asks, made of what a walker owns and of its
--- lifetime's token, and what it gives back, with the walker that its contract names. Options and numbers own facts alone, which are
--- made anew; a walker and the file's slice can be copied. Assumes nothing.
+-- The calls of the walker's functions, as the walks of this program use them: what each asks, made of what a walker
+-- owns and of its lifetime's token, and what it gives back, with the walker that its contract names. Options and
+-- numbers own facts alone, which are made anew; a walker and the file's slice can be copied. Assumes nothing.
 use mathlib.Core.Path.{_≡_, refl}
 use Prim.Native.Nat.{ℕ, _<_, _^_}
 use mathlib.Core.List.{List, [], _∷_}

@@ -1,5 +1,5 @@
--- Where a walk from the beginning of a file stands after some steps: each "takes the rest of the file from where the last one
--- stopped" (01).
+-- Where a walk from the beginning of a file stands after some steps: each "takes the rest of the file from where the
+-- last one stopped" (01).
 use Prim.Native.Nat.{ℕ, zero, suc}
 use mathlib.Core.List.{List}
 use Rattle.definitions.specs.Stepping.{stepAt, offsetAfter}

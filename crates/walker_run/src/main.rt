@@ -1,6 +1,7 @@
-// Runs the walker's own functions on four small files: a walker is made, looked ahead with, stepped twice, asked where it stands, moved, and its statement's terms are filled. Each function with a local
-// that holds the file is proved by a walk of its own, so there are three, and each does nothing but call; all else is covered. tests/vectors/walker_stdout.py makes stdout. Assumes nothing but what libc
-// says of itself.
+// Runs the walker's own functions on four small files: a walker is made, looked ahead with, stepped twice, asked where
+// it stands, moved, and its statement's terms are filled. Each function with a local that holds the file is proved by a
+// walk of its own, so there are three, and each does nothing but call; all else is covered.
+// tests/vectors/walker_stdout.py makes stdout. Assumes nothing but what libc says of itself.
 use definitions::Entry;
 use definitions::Length;
 use definitions::Options;
@@ -8,7 +9,7 @@ use definitions::Refusal;
 use walker::Stepped;
 ghost use mathlib.Core.Path.{_≡_};
 ghost use Rattle.definitions.specs.Stepping.{stepAt, termsAtStep};
-ghost use Rattle.statements.specs.FillsTerms.{FillsTerms};
+ghost use Rattle.fills.specs.FillsTerms.{FillsTerms};
 ghost use Rattle.walker.specs.Said.{saidStepped, briefStepped};
 ghost use Rattle.walker_run.specs.Stands.{standsAfter};
 

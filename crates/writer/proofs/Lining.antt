@@ -11,14 +11,13 @@ use Rattle.definitions.specs.Table.{Table, rowRoom, Outcome, refused, accepted,
 use Rattle.definitions.specs.declared.Entry.{Entry}
 use Rattle.definitions.specs.Write.{Item, itemText, writtenIn}
 use Rattle.definitions.specs.declared.Mode.{Mode}
-use Rattle.definitions.proofs.Puts.{placed, Puts, puts-length, placed-append}
+use Rattle.definitions.proofs.Puts.{placed, Puts, puts-length, placed-append, puts-none}
 use Rattle.columns.proofs.Terms.{entryAt, entries-from, entries-end}
 use Rattle.printed.specs.Rows.{onColumns}
 use Rattle.printed.proofs.OneEntry.{written-on}
 use Rattle.measures.specs.Walks.{linesOf}
 use Rattle.writer.specs.Entries.{textFrom, entryText, EntryReady}
 use Rattle.writer.specs.Walks.{linesBy, linesFor, LinesReady}
-use Rattle.writer.proofs.Outputs.{placed-none}
 
 -- what stands at the front of rows that are all accepted
 record Front (i : ℕ) (f : Entry → Checked Item) (e : Entry) (es : List Entry) (is : List Item) : Type 0 where
@@ -117,7 +116,7 @@ module _ {m : Mode} {t : Table} {text : List ℕ} {o : List ℕ} (r : LinesReady
     unfolding rowByRow joined
     lining-all h =
         let none : g .left ≡ [] = empty (g .left) (rw (entries-end t i h) at (g .are)) in
-        sym (placed-none at out) ∙ ap (λ (l : List Item). placed (linesOf m l) at out) (sym none) ∙ g .so-far ∙ rw zero-add
+        puts-none at out .after ∙ ap (λ (l : List Item). placed (linesOf m l) at out) (sym none) ∙ g .so-far ∙ rw zero-add
       where
         empty : (is : List Item) → accepted [] ≡ accepted is → is ≡ []
         empty is e = cc

@@ -8,6 +8,7 @@ use borrow.Author.Tests.{leb-true}
 use lib.Dec.{leb}
 use lib.IntN.{ℤ}
 use lib.ListN.{length, take, drop, length-take, length-drop}
+use Rattle.definitions.specs.Lists.{joined}
 use Rattle.definitions.specs.Refusal.{refuse, accept}
 use Rattle.definitions.specs.Row.{Row as DRow, Term, rowOf}
 use Rattle.definitions.specs.Table.{Table, indexed, andThen}
@@ -15,15 +16,18 @@ use Rattle.definitions.specs.declared.Entry.{Entry}
 use Rattle.definitions.specs.Write.{weighs, remarkText, rowText, printed, Item, say, line, itemText, oneLine}
 use Rattle.definitions.specs.Write.{rowAllowed, hasTerms, numbered, bounded, allowed, writtenIn}
 use Rattle.definitions.specs.declared.Mode.{Mode}
+use Rattle.definitions.proofs.Puts.{Puts, puts-as}
+use Rattle.puts.specs.Each.{LandsEach}
+use Rattle.puts.proofs.Each.{allOf, each-puts}
 use Rattle.printed.specs.declared.kinds.Shape.{Shape}
 use Rattle.printed.specs.declared.kinds.Sort.the-variants.{Comment, Row}
-use Rattle.printed.specs.Kinds.{kindOf}
-use Rattle.printed.specs.Terms.{ownTerms}
+use Rattle.shown.specs.Terms.{ownTerms}
 use Rattle.printed.specs.Rows.{rowOn, entryOf, onColumns}
 use Rattle.printed.proofs.Tests.{and-right}
 use Rattle.printed.proofs.OneEntry.{part-is, own-is, itemFor}
-use Rattle.writer.specs.Entries.{textFrom, entryText, EntryReady}
-use Rattle.writer.specs.Ready.{RowReady}
+use Rattle.lines.specs.Pieces.{rowPieces}
+use Rattle.lines.proofs.Whole.{row-puts}
+use Rattle.writer.specs.Entries.{remarkPieces, textFrom, entryText, EntryReady}
 
 -- a refusal is no item
 never {ℓ} : {X : Type ℓ} {A : Type 0} {n : ℕ} {a : A} → refuse n ≡ accept a → X
@@ -81,35 +85,42 @@ module _ (m : Mode) (ws : List ℤ) (cs : List ℕ) (text : List ℕ) (k f n : �
       own = ownTerms (s .unit) (take n (drop f ws)) (take n (drop f cs))
 
       by : (p q : Bool) → (p ≡ true → f + n ≤ min (length ws) (length cs)) → (q ≡ true → indexed own && weighs own ≡ true)
-          → andThen (cond (p && q) (accept (line (rowOf (kindOf (s .kind)) (s .bound) own))) (refuse 11)) (allowed m) ≡ accept item
+          → andThen (cond (p && q) (accept (line (rowOf (s .kind) (s .bound) own))) (refuse 11)) (allowed m) ≡ accept item
           → AcceptedRow s item
       by true true a b e =
-          let w = allowed-row m (rowOf (kindOf (s .kind)) (s .bound) own) item e in
+          let w = allowed-row m (rowOf (s .kind) (s .bound) own) item e in
           record { inside = a refl; weigh = and-right (indexed own) (weighs own) (b refl); numbers = w .0; bounds = w .1; is = w .2 }
       by true false a b e = never e
       by false q a b e = never e
 
   module _ {at : ℕ} {o : List ℕ} (r : EntryReady m columns text asked at o) where
+    comment-all : (t : List ℕ) → allOf (remarkPieces t) ≡ remarkText t
+    unfolding joined remarkText
+    comment-all t = refl
+
     -- a comment that is to be written
     pub record CommentReady : Type 0 where
       pub inside : f + n ≤ length text
-      pub room : at + length (remarkText (take (f + n - f) (drop f text))) ≤ length o
-      pub is : remarkText (take (f + n - f) (drop f text)) ≡ entryText m columns text asked
+      pub puts : {q : ℕ} {o′ : List ℕ} → LandsEach (remarkPieces (take (f + n - f) (drop f text))) at o q o′
+          → Puts (entryText m columns text asked) at o q o′
 
     pub comment-ready : writtenIn m columns text asked ≡ andThen (itemFor Comment columns text asked) (allowed m) → CommentReady
     unfolding itemText
     comment-ready e =
         let a = accepted-comment (r .item) (sym e ∙ r .is) in
-        let p = part-is f n text in
-        let i : itemText m (r .item) ≡ remarkText (take (f + n - f) (drop f text)) = ap (itemText m) (a .1) ∙ rw p in
-        record { inside = a .0; room = omega (arith, r .room, ap length i); is = sym (ap (textFrom m) (r .is) ∙ i) }
+        let t = take (f + n - f) (drop f text) in
+        let i : itemText m (r .item) ≡ allOf (remarkPieces t) = ap (itemText m) (a .1) ∙ rw (part-is f n text) (sym (comment-all _)) in
+        record {
+          inside = a .0;
+          puts = λ l. puts-as (each-puts (remarkPieces t) at o l (omega (arith, r .room, ap length i))) (sym (ap (textFrom m) (r .is) ∙ i));
+        }
 
     -- a row that is to be written
     pub record PartReady (s : Shape) : Type 0 where
       pub inside : f + n ≤ min (length ws) (length cs)
-      pub ready : RowReady s (take (f + n - f) (drop f ws)) (take (f + n - f) (drop f cs)) m at o
-      pub is : rowText (m .first) (printed (m .plain) (rowOn s (take (f + n - f) (drop f ws)) (take (f + n - f) (drop f cs))))
-          ≡ entryText m columns text asked
+      pub puts : {q : ℕ} {o′ : List ℕ}
+          → LandsEach (rowPieces m s (ownTerms (s .unit) (take (f + n - f) (drop f ws)) (take (f + n - f) (drop f cs)))) at o q o′
+          → Puts (entryText m columns text asked) at o q o′
 
     pub part-ready : (s : Shape) → writtenIn m columns text asked ≡ andThen (itemFor (Row s) columns text asked) (allowed m) → PartReady s
     unfolding itemText
@@ -119,14 +130,10 @@ module _ (m : Mode) (ws : List ℤ) (cs : List ℕ) (text : List ℕ) (k f n : �
         ap (itemText m) (a .is) in
         record {
           inside = a .inside;
-          ready = rw (part-is f n ws, part-is f n cs) (record {
-            long = simp (length-take, length-drop) (omega (arith, a .inside));
-            weigh = a .weigh;
-            numbers = a .numbers;
-            bounds = a .bounds;
-            room = omega (arith, r .room, ap length i);
-          });
-          is = rw (part-is f n ws, part-is f n cs) (sym (ap (textFrom m) (r .is) ∙ i));
+          puts = rw (part-is f n ws, part-is f n cs) (λ l. puts-as
+              (row-puts m s (take n (drop f ws)) (take n (drop f cs)) (a .weigh) (a .numbers) (a .bounds) at o l
+              (omega (arith, r .room, ap length i)))
+              (sym (ap (textFrom m) (r .is) ∙ i)));
         }
 
     pub never-refused {ℓ} : {X : Type ℓ} → writtenIn m columns text asked ≡ refuse 11 → X

@@ -9,8 +9,8 @@ use Rattle.definitions.specs.Write.{writing, lengthOf, outputAfter}
 use Rattle.definitions.specs.declared.Length.{Length}
 use Rattle.definitions.specs.declared.Mode.{Mode}
 
--- the rows of the table t, with the comments' text, into the output o: 01's number and place or the length of the lines, and the output
--- after it
+-- the rows of the table t, with the comments' text, into the output o: 01's number and place or the length of the
+-- lines, and the output after it
 pub record Writes (m : Mode) (t : Table) (text o : List ℕ) (r : Length) (o′ : List ℕ) : Type 0 where
   pub answer : saidLength r ≡ lengthOf (writing m t text (length o))
   pub after : o′ ≡ outputAfter (writing m t text (length o)) o

@@ -1,12 +1,22 @@
 // The line of one row of the table, comments too. Assumes nothing.
-use crate::lines::write_comment;
-use crate::lines::write_row;
 use definitions::Mode;
+use lines::put_row;
 use printed::Sort;
 use printed::sort_of;
+use puts::put_text;
 ghost use Rattle.definitions.proofs.Puts.{Puts};
+ghost use Rattle.puts.specs.Each.{LandsEach};
 ghost use Rattle.printed.specs.Rows.{entryOf, onColumns};
-ghost use Rattle.writer.specs.Entries.{entryText, EntryReady};
+ghost use Rattle.writer.specs.Entries.{remarkPieces, entryText, EntryReady};
+
+// The text behind `* `, and the line's end.
+fn put_remark(text: &[u8], out: &mut [u8], at: usize) -> usize
+    ensures { λ r. ⌜ LandsEach (remarkPieces (now (text .entry))) at (now (out .entry)) r (now (out .exit)) ⌝ }
+{
+    let from = put_text(b"* ", out, at);
+    let end = put_text(text, out, from);
+    put_text(b"\n", out, end)
+}
 
 pub(crate) fn write_entry(
     kind: u8,
@@ -26,11 +36,11 @@ pub(crate) fn write_entry(
     match sort_of(kind, bound) {
         Sort::Comment => {
             let end = first + count;
-            write_comment(&text[first..end], out, at)
+            put_remark(&text[first..end], out, at)
         }
         Sort::Row(shape) => {
             let end = first + count;
-            write_row(
+            put_row(
                 shape,
                 &weights[first..end],
                 &literals[first..end],

@@ -1,9 +1,7 @@
-// Rows become the lines that the Rust writes, byte for byte, or a refusal (01, "The lines written"). Two walks: the first, `measures`, checks all rows and
-// counts the length, the second writes. So a refused call changes no byte of the output. Assumes nothing.
+// Rows become the lines that the Rust writes, byte for byte, or a refusal (01, "The lines written"). Two walks: the
+// first, `measures`, checks all rows and counts the length, the second writes. So a refused call changes no byte of the
+// output. Assumes nothing.
 mod entries;
-mod lines;
-mod output;
-mod terms;
 
 use definitions::Length;
 use definitions::Mode;

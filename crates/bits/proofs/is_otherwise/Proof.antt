@@ -1,5 +1,5 @@
--- `bits::is_otherwise` meets its contract: a variable beyond the values or unmarked is not known, else its bit is compared with the
--- literal's sign. Assumes nothing.
+-- `bits::is_otherwise` meets its contract: a variable beyond the values or unmarked is not known, else its bit is
+-- compared with the literal's sign. Assumes nothing.
 use mathlib.Core.Path.{_≡_, sym, _∙_}
 use native.Mathlib.Omega.{arith}
 use borrow.Author.Tests.{not-true, not-false}

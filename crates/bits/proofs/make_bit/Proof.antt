@@ -1,4 +1,5 @@
--- `bits::make_bit` meets its contract: beyond the words nothing is changed, else the word is the one with that bit made. Assumes nothing.
+-- `bits::make_bit` meets its contract: beyond the words nothing is changed, else the word is the one with that bit
+-- made. Assumes nothing.
 use Rattle.bits.proofs.Bits.{made-beyond, made-in}
 use borrow.Author.Needs.{needs}
 use Rattle.bits.proofs.make_bit.Statement.{statement}

@@ -1,5 +1,5 @@
--- `bits::word_with` meets its contract: where the bit is not yet as it should be, its power of two turns it and no other bit, so that the
--- word stays within 64 bits. Assumes nothing.
+-- `bits::word_with` meets its contract: where the bit is not yet as it should be, its power of two turns it and no
+-- other bit, so that the word stays within 64 bits. Assumes nothing.
 use mathlib.Core.Path.{sym}
 use mathlib.Core.Bool.{true, false}
 use native.Mathlib.Omega.{arith}

@@ -1,4 +1,5 @@
--- `columns::add_size` meets its contract: below the cap, a size and the absolute weight are at most 64 bits together. Assumes nothing.
+-- `columns::add_size` meets its contract: below the cap, a size and the absolute weight are at most 64 bits together.
+-- Assumes nothing.
 use mathlib.Core.Path.{_≡_, ap, _∙_}
 use native.Mathlib.Omega.{arith}
 use borrow.Author.Needs.{needs}

@@ -1,4 +1,5 @@
--- `columns::in_column` meets its contract: the code tests a difference, since the sum may be beyond 64 bits. Assumes nothing.
+-- `columns::in_column` meets its contract: the code tests a difference, since the sum may be beyond 64 bits. Assumes
+-- nothing.
 use mathlib.Core.Path.{sym}
 use Prim.Native.Nat.{_+_}
 use native.Mathlib.Omega.{arith}

@@ -1,5 +1,5 @@
--- `columns::indexed_of` meets its contract. The loop's invariant: what is left of the codes decides. The measure is what is left of
--- the length. Assumes nothing.
+-- `columns::indexed_of` meets its contract. The loop's invariant: what is left of the codes decides. The measure is
+-- what is left of the length. Assumes nothing.
 use mathlib.Core.Path.{_≡_, refl, sym, ap, _∙_}
 use Prim.Native.Nat.{_≤_, _-_}
 use native.Mathlib.Omega.{arith}

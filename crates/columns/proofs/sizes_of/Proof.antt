@@ -1,5 +1,5 @@
--- `columns::sizes_of` meets its contract. The loop's invariant: the size of the weights passed, and those left, are the sum up to
--- the cap (`Summed`, proofs/Sizes.antt). The measure is what is left of the length. Assumes nothing.
+-- `columns::sizes_of` meets its contract. The loop's invariant: the size of the weights passed, and those left, are the
+-- sum up to the cap (`Summed`, proofs/Sizes.antt). The measure is what is left of the length. Assumes nothing.
 use Prim.Native.Nat.{_-_}
 use native.Mathlib.Omega.{arith}
 use borrow.Author.Needs.{needs, scaled-fits}

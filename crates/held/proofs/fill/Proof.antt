@@ -1,6 +1,7 @@
 -- `fill` meets its contract: the struct is taken apart, and `fill_at` is called on its fields and the two columns. The
 -- struct is Copy: one copy stays whole for the exit. The columns go to
--- `fill_at` at their own lifetimes, shares and names, for good: what it says of their last content is what `fill` says of it.
+-- `fill_at` at their own lifetimes, shares and names, for good: what it says of their last content is what `fill` says
+-- of it.
 use mathlib.Core.Path.{_≡_, refl}
 use Prim.Native.Nat.{ℕ}
 use mathlib.Core.List.{List, [], _∷_}
@@ -50,14 +51,14 @@ use Rattle.definitions.proofs.Options.Laws as O′
 use Rattle.definitions.specs.declared.Length.{Length}
 use Rattle.definitions.proofs.Length as L
 use Rattle.definitions.proofs.Length.Laws as L′
-use Rattle.statements.specs.FillsTerms.{FillsTerms}
+use Rattle.fills.specs.FillsTerms.{FillsTerms}
 use Rattle.held.specs.declared.Walker.{Walker}
 use Rattle.held.proofs.Walker as T
 use Rattle.held.proofs.Walker.Laws as T′
-use Rattle.walker.proofs.fill_at as fill-at
-use Rattle.walker.proofs.fill_at.Symbol as fill-at-def
-use Rattle.walker.proofs.fill_at.Symbol.{name as #fill-at}
-use Rattle.walker.proofs.fill_at.Met as fill-at-thm
+use Rattle.fills.proofs.fill_at as fill-at
+use Rattle.fills.proofs.fill_at.Symbol as fill-at-def
+use Rattle.fills.proofs.fill_at.Symbol.{name as #fill-at}
+use Rattle.fills.proofs.fill_at.Met as fill-at-thm
 use Rattle.held.proofs.fill.Key.{name as #fill}
 use Rattle.held.proofs.fill as fill
 use Rattle.held.proofs.fill.Statement as stated
@@ -202,7 +203,8 @@ module _ {M : Type 1} (𝓤 : URA M) (H : Heap 𝓤) (A : Atoms 𝓤) (W : Given
         fsplit ! $ drop ! $ fsplit ! $ drop ! $ fsplit ! $ drop ! $ fsplit ! $ fsplit ! $ move ! (1 ∷ []) $ feqL !
         (λ lw. move ! (1 ∷ []) $ fsplit ! $ fsplit ! $ move ! (1 ∷ []) $ feqL ! (λ ll. move ! (1 ∷ []) $ drop ! $
         move ! (2 ∷ []) $ split ! $ move ! (1 ∷ []) $ peeks ! L.the-row (Is L.the-row) (shows 𝓤 H A L.the-row) r (u ∷ []) (λ is.
-        -- [the answer; the tokens; the literals' last content; the weights'; what the walker owns; the locals from 5 on]
+        -- [the answer; the tokens; the literals' last content; the weights'; what the walker owns; the locals from 5
+        -- on]
         land ! (from ! (stop !)) (init ! 25 refl (enum.lawful L.the-type L′.the-laws 𝓤 H A W tt .typed r _ is .0)) $
         returns ! (look ! 25 refl) $ forget ! 5 refl $ forget ! 7 refl $ forget ! 9 refl $ forget ! 11 refl $ forget ! 13 refl $ forget
         ! 15 refl $ forget ! 17 refl $ forget ! 19 refl $ forget ! 21 refl $ forget ! 23 refl $ forget ! 25 refl $
@@ -247,5 +249,5 @@ fill-spec 𝓤 H 𝓜 𝓖 𝓡 =
     entered 𝓤 H (tripleOf 𝓤 H (𝓖 .A) fill.signature (fill.spec 𝓤 H (𝓖 .A) (𝓜 .mem) (𝓡 .run)))
     (tables 𝓤 H 𝓜 𝓡 code.env .C) (tables 𝓤 H 𝓜 𝓡 code.env .Λ) #fill code.function (code.unfolded 𝓤 H 𝓜 𝓡)
     (fill-meets 𝓤 H (𝓖 .A) (givenOf 𝓤 H 𝓜 𝓖) (𝓜 .mem) (𝓡 .run) (tablesOf 𝓤 H 𝓜 (tables 𝓤 H 𝓜 𝓡 code.env))
-    (cited 𝓤 H (FillAt 𝓤 H (𝓖 .A) (𝓜 .mem) (𝓡 .run)) 𝓜 𝓡 code.env #fill-at fill-at-def.routine code.calls-walker·fill-at
+    (cited 𝓤 H (FillAt 𝓤 H (𝓖 .A) (𝓜 .mem) (𝓡 .run)) 𝓜 𝓡 code.env #fill-at fill-at-def.routine code.calls-fills·fill-at
     (fill-at-thm.met 𝓤 H 𝓜 𝓖 𝓡)))

@@ -208,7 +208,8 @@ module _ {M : Type 1} (𝓤 : URA M) (H : Heap 𝓤) (A : Atoms 𝓤) (W : Given
         (‵ (all-own (T.the-type (α κ′) .parts) (T′.the-laws (α κ′)) fields)))
         (own-open 𝓤 H A W (T.the-type (α κ′)) (T′.the-laws (α κ′)) fields (T′.lowered h)) $ learn ! (λ _.
         move ! (6 ∷ 0 ∷ []) $ use2 W (raw (StepAt 𝓤 H A at-mem run .pre to-step)) asks-step $
-        -- [what `step_at` asks; what the walker owns; its cell; the open borrow; obs; auth; nothing; the locals from 7 on]
+        -- [what `step_at` asks; what the walker owns; its cell; the open borrow; obs; auth; nothing; the locals from 7
+        -- on]
         calls-at ! fm (StepAt 𝓤 H A at-mem run) known-step to-step
         (and-then ! (load ! (from ! (stop !)) (look ! 11 refl))
         (and-then ! (load ! (from ! (stop !)) (look ! 9 refl)) (and-then ! (load ! (from ! (stop !)) (look ! 15 refl)) (no-more !)))) (λ u.
@@ -217,7 +218,8 @@ module _ {M : Type 1} (𝓤 : URA M) (H : Heap 𝓤) (A : Atoms 𝓤) (W : Given
         await ! tt $ pick ! (λ r. split ! $ move ! (1 ∷ []) $ use1 W (raw (fact 𝓤 (Said r))) (said-step r) $
         heard ! (Said r) (λ e. split ! $ move ! (1 ∷ []) $
         peeks ! S.the-row (Is S.the-row) (shows 𝓤 H A S.the-row) r (u ∷ []) (λ is.
-        -- [the answer; 'a's token; what the walker owns; its cell; the open borrow; obs; auth; nothing; the locals from 8 on]
+        -- [the answer; 'a's token; what the walker owns; its cell; the open borrow; obs; auth; nothing; the locals from
+        -- 8 on]
         land ! (from ! (stop !)) (init ! 14 refl (enum.lawful S.the-type S′.the-laws 𝓤 H A W tt .typed r _ is .0)) $
         nothing ! $ owned ! usize (Is usize) (uint-makes 𝓤 H A W w64) (h .at) _ (refl, typed was .1 .1 .1 .0 .fits) $ fjoin ! $
         owned ! S.the-row (Is S.the-row) (enum.makes S.the-type S′.the-plain 𝓤 H A) r (u ∷ []) is $ fjoin ! $ nothing ! $

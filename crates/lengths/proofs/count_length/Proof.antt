@@ -1,4 +1,5 @@
--- `count_length` meets its contract: below 10,000 the ones stand at the end of the text (`last-place`, proofs/Digits.antt).
+-- `count_length` meets its contract: below 10,000 the ones stand at the end of the text (`last-place`,
+-- proofs/Digits.antt).
 use borrow.Author.Needs.{needs}
 use native.Mathlib.Omega.{arith}
 use mathlib.Core.Path.{_≡_}

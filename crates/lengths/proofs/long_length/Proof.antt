@@ -1,4 +1,5 @@
--- `long_length` meets its contract: the loop goes through the powers of ten that are at most m (`Counting`, proofs/Counts.antt).
+-- `long_length` meets its contract: the loop goes through the powers of ten that are at most m (`Counting`,
+-- proofs/Counts.antt).
 use native.Mathlib.Omega.{arith}
 use Prim.Native.Nat.{_-_}
 use Rattle.lengths.proofs.Counts.{Counting, counting-start, counting-end, counting-last, counting-small, counting-more}

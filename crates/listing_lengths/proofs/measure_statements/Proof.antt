@@ -57,9 +57,8 @@ module _ (c : tie.After-known-told Inv-loop μ-loop) where
   abbrev at-bad : tie.After-opb-data Inv-loop μ-loop
   at-bad = c .before .before .before
 
-  refusal-is : whole (options at-bad) (drop (place at-bad) (text at-bad)) ≡ bad (c .before .number .given .0 .0)
-      (c .before .number .given .0 .1 .0)
-  refusal-is = brief-bad _ _ _ (sym (ap saidStatement (c .before .number .given .1)) ∙ read at-bad)
+  refusal-is : whole (options at-bad) (drop (place at-bad) (text at-bad)) ≡ bad (c .before .refusal .given .0 .0)
+  refusal-is = brief-bad _ _ (sym (ap saidStatement (c .before .refusal .given .1)) ∙ read at-bad)
 
 -- a row
 module _ (c : tie.After-known-told2 Inv-loop μ-loop) where
@@ -110,14 +109,14 @@ returns c =
     let d = c .before .before in
     file-stop _ _ _ _ _ _ (stand d) (brief-stop _ (sym (ap saidStatement (c .enum-told .given .1)) ∙ read d))
 
-enum-known-number : tie.Need-enum-known-number Inv-loop μ-loop
-enum-known-number c = search needs
+enum-known-refusal : tie.Need-enum-known-refusal Inv-loop μ-loop
+enum-known-refusal c = search needs
 
 add-t18 : tie.Need-add-t18 Inv-loop μ-loop
-add-t18 c = omega (arith, bad-fits _ _ _ _ _ _ (stand (at-bad c)) _ _ (refusal-is c), start (at-bad c) .good)
+add-t18 c = omega (arith, bad-fits _ _ _ _ _ _ (stand (at-bad (c .before))) _ (refusal-is (c .before)), start (at-bad (c .before)) .good)
 
 returns-2 : tie.Need-returns-2 Inv-loop μ-loop
-returns-2 c = file-bad _ _ _ _ _ _ (stand (at-bad c)) _ _ (refusal-is c)
+returns-2 c = file-bad _ _ _ _ _ _ (stand (at-bad (c .before))) _ (refusal-is (c .before))
 
 enum-known-entry : tie.Need-enum-known-entry Inv-loop μ-loop
 enum-known-entry c = search needs
@@ -179,7 +178,7 @@ measure-statements-spec =
     opb-data-requires
     enum-told
     returns
-    enum-known-number
+    enum-known-refusal
     add-t18
     returns-2
     enum-known-entry

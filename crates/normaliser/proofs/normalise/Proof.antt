@@ -1,4 +1,5 @@
--- `normaliser::normalise` meets its contract: the refusal that was measured, or all filled (proofs/Answers.antt). Assumes nothing.
+-- `normaliser::normalise` meets its contract: the refusal that was measured, or all filled (proofs/Answers.antt).
+-- Assumes nothing.
 use mathlib.Core.Path.{_≡_, sym, ap, _∙_}
 use borrow.Author.Needs.{needs}
 use denote.Ref.{now}
@@ -10,7 +11,7 @@ use Rattle.normaliser.proofs.Answers.{normal-refused, ready, normal-fil
 use Rattle.normaliser.proofs.normalise.Statement.{statement}
 use Rattle.normaliser.proofs.normalise.Tie as tie
 
-module _ (c : tie.After-measure) where
+module _ (c : tie.After-measure-normal) where
   abbrev start : tie.Start
   start = c .before .before .before .before .before .before .before .before .before .before .before .before .before .before .before
 
@@ -25,11 +26,11 @@ module _ (c : tie.After-measure) where
       table (now (a .outkinds)) (now (a .outfirsts)) (now (a .outcounts)) (now (a .outbounds)) (now (a .outweights)) (now (a .outliterals))
 
   -- the answer that was measured
-  measured : (r : Counted) → c .measure .result ≡ r → saidCounted r ≡ counted (normalising lent given)
-  measured r e = sym (ap saidCounted e) ∙ c .measure .ensures
+  measured : (r : Counted) → c .measure-normal .result ≡ r → saidCounted r ≡ counted (normalising lent given)
+  measured r e = sym (ap saidCounted e) ∙ c .measure-normal .ensures
 
-measure-requires : tie.Need-measure-requires
-measure-requires c κs = search needs
+measure-normal-requires : tie.Need-measure-normal-requires
+measure-normal-requires c κs = search needs
 
 enum-known-refusal : tie.Need-enum-known-refusal
 enum-known-refusal c = search needs
@@ -95,7 +96,7 @@ pub normalise-spec : {M : Type 1} → statement M
 normalise-spec =
     tie.close
     (tie.spec
-    measure-requires
+    measure-normal-requires
     enum-known-refusal
     enum-known-totals
     fill-rows-requires

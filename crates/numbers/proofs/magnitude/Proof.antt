@@ -1,4 +1,5 @@
--- `magnitude` meets its contract: below 0 it adds one, negates, and adds one again, so that each step fits (proofs/Signed.antt).
+-- `magnitude` meets its contract: below 0 it adds one, negates, and adds one again, so that each step fits
+-- (proofs/Signed.antt).
 use borrow.Author.Needs.{needs}
 use mathlib.Core.Path.{_≡_}
 use mathlib.Core.Bool.{true, false}

@@ -1,4 +1,5 @@
--- `read_run` meets its contract: the loop walks over the digits, and cuts their value off at the cap (`Walked`, proofs/Walk.antt).
+-- `read_run` meets its contract: the loop walks over the digits, and cuts their value off at the cap (`Walked`,
+-- proofs/Walk.antt).
 use native.Mathlib.Omega.{arith}
 use mathlib.Core.Logic.{⊎-elim}
 use Prim.Native.Nat.{_-_, _≤_}

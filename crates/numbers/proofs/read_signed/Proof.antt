@@ -1,4 +1,5 @@
--- `read_signed` meets its contract: a size that was cut off at the cap is judged as the value itself (proofs/Walk.antt).
+-- `read_signed` meets its contract: a size that was cut off at the cap is judged as the value itself
+-- (proofs/Walk.antt).
 use borrow.Author.Needs.{needs, sfits-of}
 use mathlib.Core.Logic.{⊎-elim}
 use mathlib.Core.Path.{_≡_}

@@ -11,8 +11,8 @@ called c = c .before .before .before .before
 read-values-requires : tie.Need-read-values-requires
 read-values-requires c κs = search needs
 
-enum-known-number : tie.Need-enum-known-number
-enum-known-number c = search needs
+enum-known-found : tie.Need-enum-known-found
+enum-known-found c = search needs
 
 refused-length-requires : tie.Need-refused-length-requires
 refused-length-requires c κs = search needs
@@ -32,7 +32,7 @@ same-length-2 c = search needs
 returns : tie.Need-returns
 returns c =
     values-told _ _ _ _ _ _ _ _ _ (called (c .before .before .before .before) .read-values .ensures)
-    (c .before .before .number .given .1) (c .refused-length .ensures)
+    (c .before .before .found .given .1) (c .refused-length .ensures)
 
 same-length-3 : tie.Need-same-length-3
 same-length-3 c = search needs
@@ -50,7 +50,7 @@ opb-values-spec =
     tie.close
     (tie.spec
     read-values-requires
-    enum-known-number
+    enum-known-found
     refused-length-requires
     enum-known-after
     length-of-requires

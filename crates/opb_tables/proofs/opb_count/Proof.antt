@@ -1,6 +1,6 @@
 -- `opb_count` meets its contract: what `count_file` answers, as C has it.
 use mathlib.Core.Path.{ap, _∙_}
-use Rattle.opb_tables.specs.Answers.{tableAnswer}
+use Rattle.table_answers.specs.Answers.{tableAnswer}
 use borrow.Author.Needs.{needs}
 use Rattle.opb_tables.proofs.opb_count.Statement.{statement}
 use Rattle.opb_tables.proofs.opb_count.Tie as tie

@@ -1,5 +1,5 @@
--- `print_statements` meets its contract: each line takes the offset forward, so that what is left of the file falls; columns and
--- output keep their lengths.
+-- `print_statements` meets its contract: each line takes the offset forward, so that what is left of the file falls;
+-- columns and output keep their lengths.
 use Prim.Native.Nat.{ℕ, _-_}
 use mathlib.Core.List.{List}
 use mathlib.Core.Path.{_≡_, refl, ap, sym, _∙_}

@@ -1,4 +1,5 @@
--- `put_few` meets its contract: the four bytes of the number that `four_digits` gives, each at its place (`stored-few`, proofs/Four.antt).
+-- `put_few` meets its contract: the four bytes of the number that `four_digits` gives, each at its place (`stored-few`,
+-- proofs/Four.antt).
 use Prim.Native.Nat.{_/_}
 use native.Mathlib.Omega.{arith}
 use lib.Bits.{mask-lt}

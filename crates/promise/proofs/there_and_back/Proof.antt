@@ -1,11 +1,12 @@
--- `there_and_back` meets its contract: a refusal that was foreseen, with nothing changed; or both accept (proofs/Laws.antt).
-use mathlib.Core.Path.{_≡_, sym, ap, _∙_}
+-- `there_and_back` meets its contract: a refusal that was foreseen, with nothing changed; or both accept
+-- (proofs/Laws.antt).
+use mathlib.Core.Path.{_≡_, refl, sym, ap, _∙_}
 use Prim.Native.Nat.{ℕ}
 use denote.Ref.{now}
 use lib.ListN.{length}
 use Rattle.definitions.specs.Table.{Table, table, totalsOf}
 use Rattle.definitions.specs.Write.{writing}
-use Rattle.promise.specs.Returns.{back, returning, saidReturned}
+use Rattle.foreseen.specs.Returning.{back, returning, saidReturned}
 use Rattle.promise.proofs.Laws.{not-written, not-read, text-within, part-length, came-back}
 use borrow.Author.Needs.{needs}
 use Rattle.promise.proofs.there_and_back.Statement.{statement}
@@ -14,7 +15,8 @@ use Rattle.promise.proofs.there_and_back.Tie as tie
 module _ (c : tie.After-foresee) where
   abbrev start : tie.Start
   start =
-      c .before .before .before .before .before .before .before .before .before .before .before .before .before .before .before .before .before
+      let lent = c .before .before .before .before .before .before .before .before in
+      lent .before .before .before .before .before .before .before .before .before .before
 
   abbrev rows-of : Table
   rows-of =
@@ -46,19 +48,19 @@ module _ (c : tie.After-length) where
   comes = sym (ap saidReturned (c .length .given .1)) ∙ seen .foresee .ensures
 
 foresee-requires : tie.Need-foresee-requires
-foresee-requires c κs = search needs
+foresee-requires c κs = tt
 
-enum-known-number : tie.Need-enum-known-number
-enum-known-number c = search needs
+enum-known-r : tie.Need-enum-known-r
+enum-known-r c = search needs
 
-enum-known-number-2 : tie.Need-enum-known-number-2
-enum-known-number-2 c = search needs
+enum-known-r-2 : tie.Need-enum-known-r-2
+enum-known-r-2 c = search needs
 
 enum-known-length : tie.Need-enum-known-length
 enum-known-length c = search needs
 
 write-opb-lines-requires : tie.Need-write-opb-lines-requires
-write-opb-lines-requires c κs = search needs
+write-opb-lines-requires c κs = tt
 
 slice-reshare-prefix-parse-opb-data : tie.Need-slice-reshare-prefix-parse-opb-data
 slice-reshare-prefix-parse-opb-data c =
@@ -77,63 +79,63 @@ slice-aggregate-parse-opb-data c =
     (comes a) _ _ (w .write-opb-lines .ensures)
 
 parse-opb-data-requires : tie.Need-parse-opb-data-requires
-parse-opb-data-requires c κs = search needs
+parse-opb-data-requires c κs = tt
 
 same-length : tie.Need-same-length
-same-length c = search needs
+same-length c = refl
 
 same-length-2 : tie.Need-same-length-2
-same-length-2 c = search needs
+same-length-2 c = refl
 
 same-length-3 : tie.Need-same-length-3
-same-length-3 c = search needs
+same-length-3 c = refl
 
 same-length-4 : tie.Need-same-length-4
-same-length-4 c = search needs
+same-length-4 c = refl
 
 same-length-5 : tie.Need-same-length-5
-same-length-5 c = search needs
+same-length-5 c = refl
 
 same-length-6 : tie.Need-same-length-6
-same-length-6 c = search needs
+same-length-6 c = refl
+
+same-length-7 : tie.Need-same-length-7
+same-length-7 c = refl
 
 returns : tie.Need-returns
 returns c =
     let d = c .before .before .before in
     let s = start d in
-    not-written (s .args .mode) (rows-of d) (now (s .args .text)) (now (s .args .out)) (new-of d) _ _
-    (sym (ap saidReturned (c .before .number .given .1)) ∙ d .foresee .ensures)
-
-same-length-7 : tie.Need-same-length-7
-same-length-7 c = search needs
+    not-written (s .args .mode) (rows-of d) (now (s .args .text)) (now (s .args .out)) (new-of d) _
+    (sym (ap saidReturned (c .before .r .given .1)) ∙ d .foresee .ensures)
 
 same-length-8 : tie.Need-same-length-8
-same-length-8 c = search needs
+same-length-8 c = refl
 
 same-length-9 : tie.Need-same-length-9
-same-length-9 c = search needs
+same-length-9 c = refl
 
 same-length-10 : tie.Need-same-length-10
-same-length-10 c = search needs
+same-length-10 c = refl
 
 same-length-11 : tie.Need-same-length-11
-same-length-11 c = search needs
+same-length-11 c = refl
 
 same-length-12 : tie.Need-same-length-12
-same-length-12 c = search needs
+same-length-12 c = refl
+
+same-length-13 : tie.Need-same-length-13
+same-length-13 c = refl
+
+same-length-14 : tie.Need-same-length-14
+same-length-14 c = refl
 
 returns-2 : tie.Need-returns-2
 returns-2 c =
     let d = c .before .before .before in
     let s = start d in
-    not-read (s .args .mode) (rows-of d) (now (s .args .text)) (now (s .args .out)) (new-of d) _ _
-    (sym (ap saidReturned (c .before .number2 .given .1)) ∙ d .foresee .ensures)
-
-same-length-13 : tie.Need-same-length-13
-same-length-13 c = search needs
-
-same-length-14 : tie.Need-same-length-14
-same-length-14 c = search needs
+    not-read (s .args .mode) (rows-of d) (now (s .args .text)) (now (s .args .out)) (new-of d) _
+    (sym (ap saidReturned (c .before .r2 .given .1)) ∙ d .foresee .ensures)
 
 same-length-15 : tie.Need-same-length-15
 same-length-15 c = search needs
@@ -150,6 +152,12 @@ same-length-18 c = search needs
 same-length-19 : tie.Need-same-length-19
 same-length-19 c = search needs
 
+same-length-20 : tie.Need-same-length-20
+same-length-20 c = search needs
+
+same-length-21 : tie.Need-same-length-21
+same-length-21 c = search needs
+
 returns-3 : tie.Need-returns-3
 returns-3 c =
     let p = c .before .before .before .before .before .before .before .before .before .before in
@@ -164,8 +172,8 @@ there-and-back-spec =
     tie.close
     (tie.spec
     foresee-requires
-    enum-known-number
-    enum-known-number-2
+    enum-known-r
+    enum-known-r-2
     enum-known-length
     write-opb-lines-requires
     slice-reshare-prefix-parse-opb-data
@@ -177,19 +185,21 @@ there-and-back-spec =
     same-length-4
     same-length-5
     same-length-6
-    returns
     same-length-7
+    returns
     same-length-8
     same-length-9
     same-length-10
     same-length-11
     same-length-12
-    returns-2
     same-length-13
     same-length-14
+    returns-2
     same-length-15
     same-length-16
     same-length-17
     same-length-18
     same-length-19
+    same-length-20
+    same-length-21
     returns-3)

@@ -1,6 +1,6 @@
--- `weighted_lit_sum` meets its contract: the loop stands at an offset with the terms before it counted and put (`Walking`,
--- proofs/Walking.antt), behind a run of plain terms it still does (proofs/Runs.antt), and behind one term more. The measure is what
--- is left of the text.
+-- `weighted_lit_sum` meets its contract: the loop stands at an offset with the terms before it counted and put
+-- (`Walking`, proofs/Walking.antt), behind a run of plain terms it still does (proofs/Runs.antt), and behind one term
+-- more. The measure is what is left of the text.
 use Prim.Native.Nat.{ℕ, _+_, _-_, _≤_}
 use mathlib.Core.List.{List}
 use mathlib.Core.Path.{_≡_, sym, ap, _∙_}
@@ -147,7 +147,7 @@ same-length-4 c = passed (behind (c .before .before .before)) .literals
 returns-2 : tie.Need-returns-2 Inv-loop μ-loop
 returns-2 c =
     let d = c .before .before .before in
-    walking-bad _ _ _ _ _ _ _ _ _ (passed (behind d)) _ 0 (step-is d ∙ ap saidNext (c .before .e .given .1))
+    walking-bad _ _ _ _ _ _ _ _ _ (passed (behind d)) _ (step-is d ∙ ap saidNext (c .before .e .given .1))
 
 enum-known-weight : tie.Need-enum-known-weight Inv-loop μ-loop
 enum-known-weight c = search needs

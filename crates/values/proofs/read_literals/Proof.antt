@@ -1,4 +1,5 @@
--- `read_literals` meets its contract: what is heard of the block, 12, or both rows with their bits (proofs/Reading.antt). Assumes nothing.
+-- `read_literals` meets its contract: what is heard of the block, 12, or both rows with their bits
+-- (proofs/Reading.antt). Assumes nothing.
 use mathlib.Core.Path.{_≡_, refl, sym, ap, _∙_}
 use mathlib.Core.Bool.{Bool}
 use mathlib.Core.List.{List, [], map}
@@ -11,7 +12,7 @@ use Rattle.definitions.specs.Table.{accepted}
 use Rattle.definitions.specs.Values.{front, itemsFrom, hear, formOf, lengthAfter, newLength}
 use Rattle.definitions.specs.declared.Length.{Length}
 use Rattle.tokens.specs.Said.{formBy}
-use Rattle.heard.specs.Flat.{saidBy, codeIn}
+use Rattle.settling.specs.Flat.{saidBy, codeIn}
 use Rattle.values.proofs.Reading.{was-false, was-true, Heard, literals-refused, literals-said, read-refused, read-short, read-fine}
 use Rattle.values.proofs.read_literals.Statement.{statement}
 use Rattle.values.proofs.read_literals.Tie as tie

@@ -1,5 +1,5 @@
--- `look_ahead` meets its contract: `new`, `moved` and `step` are called one after the other, each on what the one before it made.
--- The file's slice is had twice, once for the walker and once for the exit.
+-- `look_ahead` meets its contract: `new`, `moved` and `step` are called one after the other, each on what the one
+-- before it made. The file's slice is had twice, once for the walker and once for the exit.
 use mathlib.Core.Path.{_≡_, refl}
 use Prim.Native.Nat.{ℕ, _<_, _^_}
 use mathlib.Core.List.{List, [], _∷_}

@@ -1,5 +1,5 @@
--- `terms_at` meets its contract: `new` and `moved` are called as in `look_ahead`, and `fill` on the walker and the columns, which
--- are given up for good. The file's slice is had twice, once for the walker and once for the exit.
+-- `terms_at` meets its contract: `new` and `moved` are called as in `look_ahead`, and `fill` on the walker and the
+-- columns, which are given up for good. The file's slice is had twice, once for the walker and once for the exit.
 use mathlib.Core.Path.{_≡_, refl}
 use Prim.Native.Nat.{ℕ, _<_, _^_}
 use mathlib.Core.List.{List, [], _∷_}
@@ -49,7 +49,7 @@ use Rattle.definitions.proofs.Options.Laws as O′
 use Rattle.definitions.specs.declared.Length.{Length}
 use Rattle.definitions.proofs.Length as L
 use Rattle.definitions.proofs.Length.Laws as L′
-use Rattle.statements.specs.FillsTerms.{FillsTerms}
+use Rattle.fills.specs.FillsTerms.{FillsTerms}
 use Rattle.held.specs.Walks.{walkerAt}
 use Rattle.held.specs.declared.Walker.{Walker}
 use Rattle.held.proofs.new.Symbol as new-def
@@ -154,8 +154,8 @@ module _ {M : Type 1} (𝓤 : URA M) (H : Heap 𝓤) (A : Atoms 𝓤) (W : Given
         ∷ ‵ (owns (ShrSlice (named 0) κ u8 ∷ O.the-row ∷ usize ∷ MutSlice (named 1) κ₁ i64 ∷ MutSlice (named 2) κ₂ u32 ∷ []) args vals)
         ∷ []) ∵
         enter ! C Λ code.function (sliceOf s ∷ O′.lowered p ∷ vint w64 n ∷ vx ∷ vy ∷ []) _ $
-        -- locals: result, file, options, at, weights, literals, the walker moved, the walker made, the walker passed, and each
-        -- column lent on: its pointer, the slice
+        -- locals: result, file, options, at, weights, literals, the walker moved, the walker made, the walker passed,
+        -- and each column lent on: its pointer, the slice
         alloc1 ! (λ l₀. alloc1 !
         (λ l₁. alloc1 ! (λ l₂. alloc1 !
         (λ l₃. alloc1 ! (λ l₄. alloc1 !

@@ -1,6 +1,6 @@
--- `walk_two` meets its contract: a walker is made in a local, the local is lent to `next` twice, each time for a lifetime made for
--- the call, and `at` is called on a copy of what it then holds. The answers and the offset own facts alone, which are made anew for
--- the result.
+-- `walk_two` meets its contract: a walker is made in a local, the local is lent to `next` twice, each time for a
+-- lifetime made for the call, and `at` is called on a copy of what it then holds. The answers and the offset own facts
+-- alone, which are made anew for the result.
 use mathlib.Core.Path.{refl}
 use Prim.Native.Nat.{ℕ}
 use mathlib.Core.List.{List, [], _∷_}
@@ -117,7 +117,8 @@ module _ {M : Type 1} (𝓤 : URA M) (H : Heap 𝓤) (A : Atoms 𝓤) (W : Given
     walk =
         qed W ((‵ (flft κ q) ⊛ ‵ ftrue) ∷ ‵ (owns (ShrSlice (named 0) κ u8 ∷ O.the-row ∷ []) (s, (p, tt)) vals)
         ∷ []) ∵ enter ! C Λ code.function (sliceOf s ∷ O′.lowered p ∷ []) _ $
-        -- locals: result, file, options, the walker, the two answers, the offset, a walker passed, and the walker lent, twice
+        -- locals: result, file, options, the walker, the two answers, the offset, a walker passed, and the walker lent,
+        -- twice
         alloc1 ! (λ l₀. alloc1 !
         (λ l₁. alloc1 ! (λ l₂. alloc1 !
         (λ l₃. alloc1 ! (λ l₄. alloc1 ! (λ l₅. alloc1 ! (λ l₆. alloc1 ! (λ l₇. alloc1 ! (λ l₈. alloc1 ! (λ l₉. alloc0 ! $ params1 ! $

@@ -1,4 +1,4 @@
--- `write_lines` meets its contract: each turn writes one row (`Lining`, proofs/Rowwise.antt).
+-- `write_lines` meets its contract: each turn writes one row (`Lining`, proofs/Lining.antt).
 use native.Mathlib.Omega.{arith}
 use mathlib.Core.Path.{_≡_, ap}
 use Prim.Native.Nat.{_-_, _<_}

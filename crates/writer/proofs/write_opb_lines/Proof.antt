@@ -21,7 +21,7 @@ measured : (c : tie.After-all) → accepted (c .all .given .0 .0)
 measured c = sym (ap saidMeasure (c .all .given .1)) ∙ c .before .before .measure-opb-lines .ensures
 
 measure-opb-lines-requires : tie.Need-measure-opb-lines-requires
-measure-opb-lines-requires c κs = search needs
+measure-opb-lines-requires c κs = tt
 
 enum-known-r : tie.Need-enum-known-r
 enum-known-r c = search needs

@@ -18,7 +18,8 @@ use Rattle.definitions.proofs.Parts.{part-is}
 use Rattle.definitions.proofs.Statements.{within-operator, within-comparison}
 use Rattle.definitions.proofs.Texts.{blanks-within}
 use Rattle.numbers.specs.Read.{said}
-use Rattle.frames.specs.Said.{saidOperator, saidEnding}
+use Rattle.operators.specs.Said.{saidOperator}
+use Rattle.frames.specs.Said.{saidEnding}
 use Rattle.frames.proofs.Closings.{comparison-no-operator, comparison-no-number, comparison-no-ending, comparison-got}
 use Rattle.frames.proofs.closing.read_comparison.Statement.{statement}
 use Rattle.frames.proofs.closing.read_comparison.Tie as tie
@@ -104,10 +105,10 @@ module _ (c : tie.After-known-told3) where
   abbrev read : Comparison
   read =
       let d = behind-number at-ending in
-      comparisonOf (found (behind-operator (behind-blanks (at-number d)))) (value d)
+      comparisonOf (found (behind-operator (behind-blanks (at-number d)))) (value d) (c .before .semicolon .given .0 .0)
 
   abbrev comparison-end : ℕ
-  comparison-end = number-end (behind-number at-ending) + c .before .k .given .0 .0
+  comparison-end = number-end (behind-number at-ending) + c .before .semicolon .given .0 .1 .0
 
   comparison-is : comparison (ending-text at-ending) ≡ got read comparison-end
   comparison-is =
@@ -115,8 +116,8 @@ module _ (c : tie.After-known-told3) where
       let e = behind-blanks (at-number d) in
       let f = behind-operator e in
       comparison-got (text f) (found f) (operator-end f) (e .blanks-of .result) (operator-got f) (blanks-got e) (value d)
-      (number-bytes d) (number-got d) _
-      (ending-by at-ending ∙ ap saidEnding (c .before .k .given .1))
+      (number-bytes d) (number-got d) _ _
+      (ending-by at-ending ∙ ap saidEnding (c .before .semicolon .given .1))
 
 read-operator-requires : tie.Need-read-operator-requires
 read-operator-requires c κs = search needs
@@ -189,8 +190,8 @@ part-read-ending-end c = search needs
 read-ending-requires : tie.Need-read-ending-requires
 read-ending-requires c κs = search needs
 
-enum-known-k : tie.Need-enum-known-k
-enum-known-k c = search needs
+enum-known-semicolon : tie.Need-enum-known-semicolon
+enum-known-semicolon c = search needs
 
 enum-told-3 : tie.Need-enum-told-3
 enum-told-3 c = search needs
@@ -205,8 +206,8 @@ returns-3 c =
     (value d) (number-bytes d) (number-got d)
     (ending-by b ∙ ap saidEnding (c .enum-told3 .given .1)))
 
-add-t10 : tie.Need-add-t10
-add-t10 c =
+add-t12 : tie.Need-add-t12
+add-t12 c =
     let h = within-comparison .most (ending-text (at-ending c)) (read c) (comparison-end c) (comparison-is c) in
     omega arith
 
@@ -240,8 +241,8 @@ read-comparison-spec =
     part-read-ending-start
     part-read-ending-end
     read-ending-requires
-    enum-known-k
+    enum-known-semicolon
     enum-told-3
     returns-3
-    add-t10
+    add-t12
     returns-4)

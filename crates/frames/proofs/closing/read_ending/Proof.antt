@@ -42,8 +42,9 @@ module _ (c : tie.After-known-told) where
   abbrev closed : tie.After-read-closing
   closed = c .before .before .before
 
-  ending-got : ending (text (here closed)) ≡ got 0 (gap (here closed) + c .before .n .given .0 .0)
-  ending-got = ending-by closed ∙ ap (λ (r : EndingRead). more (gap (here closed)) (saidEnding r)) (c .before .n .given .1)
+  ending-got : ending (text (here closed))
+      ≡ got (c .before .semicolon .given .0 .0) (gap (here closed) + c .before .semicolon .given .0 .1 .0)
+  ending-got = ending-by closed ∙ ap (λ (r : EndingRead). more (gap (here closed)) (saidEnding r)) (c .before .semicolon .given .1)
 
 blanks-of-requires : tie.Need-blanks-of-requires
 blanks-of-requires c κs = search needs
@@ -60,8 +61,8 @@ part-read-closing-end c = search needs
 read-closing-requires : tie.Need-read-closing-requires
 read-closing-requires c κs = search needs
 
-enum-known-n : tie.Need-enum-known-n
-enum-known-n c = search needs
+enum-known-semicolon : tie.Need-enum-known-semicolon
+enum-known-semicolon c = search needs
 
 enum-told : tie.Need-enum-told
 enum-told c = search needs
@@ -71,8 +72,8 @@ returns c =
     let d = c .before .before in
     sym (ending-by d ∙ ap (λ (r : EndingRead). more (gap (here d)) (saidEnding r)) (c .enum-told .given .1))
 
-add-t6 : tie.Need-add-t6
-add-t6 c = omega (arith, within-ending .most (text (here (closed c))) 0 _ (ending-got c))
+add-t7 : tie.Need-add-t7
+add-t7 c = omega (arith, within-ending .most (text (here (closed c))) _ _ (ending-got c))
 
 returns-2 : tie.Need-returns-2
 returns-2 c = sym (ending-got c)
@@ -86,8 +87,8 @@ read-ending-spec =
     part-read-closing-start
     part-read-closing-end
     read-closing-requires
-    enum-known-n
+    enum-known-semicolon
     enum-told
     returns
-    add-t6
+    add-t7
     returns-2)

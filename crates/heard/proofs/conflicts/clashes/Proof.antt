@@ -1,4 +1,5 @@
--- `heard::conflicts::clashes` meets its contract: the variable is known otherwise, or the opposite literal is marked. Assumes nothing.
+-- `heard::conflicts::clashes` meets its contract: the variable is known otherwise, or the opposite literal is marked.
+-- Assumes nothing.
 use Prim.Native.Nat.{ℕ, _-_, _*_}
 use mathlib.Core.Path.{sym, ap, _∙_}
 use native.Mathlib.Omega.{arith}

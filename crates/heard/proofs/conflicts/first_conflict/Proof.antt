@@ -1,5 +1,5 @@
--- `heard::conflicts::first_conflict` meets its contract: the loop has found the first conflict of the variables below the next
--- window (`Searched`, proofs/Searching.antt). The measure is what is left of the indexes. Assumes nothing.
+-- `heard::conflicts::first_conflict` meets its contract: the loop has found the first conflict of the variables below
+-- the next window (`Searched`, proofs/Searching.antt). The measure is what is left of the indexes. Assumes nothing.
 use Prim.Native.Nat.{_+_, _-_}
 use native.Mathlib.Omega.{arith}
 use borrow.Author.Needs.{needs}

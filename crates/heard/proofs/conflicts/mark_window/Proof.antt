@@ -1,5 +1,5 @@
--- `heard::conflicts::mark_window` meets its contract: the loop stands at an offset with the marks and the answer so far (`Walk`,
--- proofs/Marking.antt). The measure is what is left of the block. Assumes nothing.
+-- `heard::conflicts::mark_window` meets its contract: the loop stands at an offset with the marks and the answer so far
+-- (`Walk`, proofs/Marking.antt). The measure is what is left of the block. Assumes nothing.
 use Prim.Native.Nat.{ℕ, _-_}
 use mathlib.Core.Path.{_≡_, sym, ap, subst, _∙_}
 use mathlib.Core.List.{List}
@@ -8,9 +8,9 @@ use borrow.Author.Needs.{needs}
 use denote.Ref.{now}
 use lib.ListN.{length, drop}
 use Rattle.definitions.specs.Values.{itemsFrom}
-use Rattle.tokens.specs.Steps.{spotOf}
-use Rattle.tokens.specs.declared.items.Next.{Next}
-use Rattle.heard.proofs.Steps.{stepOf, saidNext, Ahead, next-step}
+use Rattle.items.specs.Items.{spotOf}
+use Rattle.tokens.specs.declared.next.Next.{Next}
+use Rattle.settling.proofs.Steps.{stepOf, saidNext, Ahead, next-step}
 use Rattle.heard.proofs.Marking.{Walk, walk-start, walk-ends, walk-refuses, walk-nothing, walk-on}
 use Rattle.heard.proofs.conflicts.mark_window.Statement.{statement}
 use Rattle.heard.proofs.conflicts.mark_window.Tie as tie

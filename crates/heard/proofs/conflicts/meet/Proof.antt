@@ -1,4 +1,5 @@
--- `heard::conflicts::meet` meets its contract: the literal lies before or behind the window, clashes, or is marked. Assumes nothing.
+-- `heard::conflicts::meet` meets its contract: the literal lies before or behind the window, clashes, or is marked.
+-- Assumes nothing.
 use Prim.Native.Nat.{ℕ, _-_, _*_}
 use mathlib.Core.Path.{_≡_, refl, sym, ap, _∙_}
 use mathlib.Core.Bool.{Bool, true, false}

@@ -1,4 +1,5 @@
--- `heard::conflicts::walk_for` meets its contract: the window's marks are lent to the walk with none set. Assumes nothing.
+-- `heard::conflicts::walk_for` meets its contract: the window's marks are lent to the walk with none set. Assumes
+-- nothing.
 use Prim.Native.Nat.{ℕ}
 use lib.ListN.{length-replicate}
 use Rattle.heard.proofs.Searching.{zeros-unmarked}

@@ -7,10 +7,11 @@ use native.Mathlib.Omega.{arith}
 use lib.ListN.{length, drop}
 use borrow.Author.Needs.{needs}
 use Rattle.definitions.specs.Values.{Item, front, itemsFrom}
-use Rattle.tokens.specs.Steps.{spotOf}
-use Rattle.heard.specs.Flat.{surveyOf}
-use Rattle.tokens.specs.declared.items.Next.{Next}
-use Rattle.heard.proofs.Steps.{stepOf, saidNext, Ahead, next-step, survey-ends, survey-refuses, survey-nothing, survey-says}
+use Rattle.items.specs.Items.{spotOf}
+use Rattle.heard.specs.Surveys.{surveyOf}
+use Rattle.tokens.specs.declared.next.Next.{Next}
+use Rattle.settling.proofs.Steps.{stepOf, saidNext, Ahead, next-step}
+use Rattle.heard.proofs.Surveying.{survey-ends, survey-refuses, survey-nothing, survey-says}
 use Rattle.heard.proofs.survey.survey.Statement.{statement}
 use Rattle.heard.proofs.survey.survey.Tie as tie
 

@@ -1,4 +1,5 @@
--- `put_terms` meets its contract: each turn puts one term behind the others (`TermsAt`, house_measures' proofs/TermsWalk.antt).
+-- `put_terms` meets its contract: each turn puts one term behind the others (`TermsAt`, house_measures'
+-- proofs/TermsWalk.antt).
 use native.Mathlib.Omega.{arith}
 use mathlib.Core.Path.{_≡_, sym, ap, subst}
 use Prim.Native.Nat.{ℕ, _+_, _-_, _≤_}

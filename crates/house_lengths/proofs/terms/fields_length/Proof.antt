@@ -1,4 +1,5 @@
--- `fields_length` meets its contract: the digits of weight and file number, a sign, the two tabs, `x`, and `~` where it stands.
+-- `fields_length` meets its contract: the digits of weight and file number, a sign, the two tabs, `x`, and `~` where it
+-- stands.
 use native.Mathlib.Omega.{arith}
 use mathlib.Core.Path.{_≡_, ap, _∙_}
 use Prim.Native.Nat.{ℕ, _≤_}

@@ -1,4 +1,5 @@
--- `measure_line` meets its contract: an index above its limit, a file number beyond u32, or the terms and the length of the line.
+-- `measure_line` meets its contract: an index above its limit, a file number beyond u32, or the terms and the length of
+-- the line.
 use mathlib.Core.Path.{_≡_, refl, sym, _∙_}
 use mathlib.Core.Bool.{true}
 use borrow.Author.Tests.{not-true, not-false}

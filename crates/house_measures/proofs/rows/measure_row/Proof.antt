@@ -1,4 +1,5 @@
--- `measure_row` meets its contract: a comment, a kind that is not read, terms outside their columns, or a row of a kind.
+-- `measure_row` meets its contract: a comment, a kind that is not read, terms outside their columns, or a row of a
+-- kind.
 use native.Mathlib.Omega.{arith}
 use mathlib.Core.Path.{_≡_, sym, ap, _∙_}
 use mathlib.Core.Bool.{true}

@@ -1,4 +1,5 @@
--- `terms_length` meets its contract: each turn adds the length of one term that has a file number (`TermsAt`, proofs/TermsWalk.antt).
+-- `terms_length` meets its contract: each turn adds the length of one term that has a file number (`TermsAt`,
+-- proofs/TermsWalk.antt).
 use native.Mathlib.Omega.{arith}
 use mathlib.Core.Path.{_≡_, refl, ap}
 use Prim.Native.Nat.{_-_}

@@ -1,4 +1,5 @@
--- `fields_length` meets its contract: what the byte behind the blanks begins has met its terms (statements' proofs/MetTerms.antt).
+-- `fields_length` meets its contract: what the byte behind the blanks begins has met its terms (statements'
+-- proofs/MetTerms.antt).
 use Prim.Native.Nat.{ℕ, _<_}
 use mathlib.Core.List.{List}
 use mathlib.Core.Path.{_≡_, sym, ap, _∙_}

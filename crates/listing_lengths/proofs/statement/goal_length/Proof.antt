@@ -50,7 +50,7 @@ returns c =
     let s = b .before .before in
     let e = sym (b .read-min .ensures) ∙ ap saidMin (c .enum-told .given .1) in
     none-length (s .args .options .first) ∙ ap (fieldsLength (s .args .options .first))
-    (sym (goal-none (s .args .options) (now (s .args .s)) 2 e))
+    (sym (goal-none (s .args .options) (now (s .args .s)) _ e))
 
 add-a : tie.Need-add-a
 add-a c = omega (arith, within c, start c .good)

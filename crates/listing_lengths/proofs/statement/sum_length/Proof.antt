@@ -109,7 +109,7 @@ enum-told-2 c = search needs
 returns-2 : tie.Need-returns-2 Inv-loop μ-loop
 returns-2 c =
     let d = c .before .before in
-    sum-bad _ _ _ _ (turn d .loop .inv) _ 0 (step-is d ∙ ap saidNext (c .enum-told2 .given .1))
+    sum-bad _ _ _ _ (turn d .loop .inv) _ (step-is d ∙ ap saidNext (c .enum-told2 .given .1))
 
 enum-known-weight : tie.Need-enum-known-weight Inv-loop μ-loop
 enum-known-weight c = search needs

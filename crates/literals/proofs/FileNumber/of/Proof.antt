@@ -1,4 +1,5 @@
--- `literals::FileNumber::of` meets its contract: the sum of two u32 fits a u64, and `of_digits` tests it. Assumes nothing.
+-- `literals::FileNumber::of` meets its contract: the sum of two u32 fits a u64, and `of_digits` tests it. Assumes
+-- nothing.
 use Rattle.definitions.specs.Literal.{fileNumber}
 use Rattle.literals.specs.Digits.{fileNumberOf}
 use borrow.Author.Needs.{needs}

@@ -1,4 +1,5 @@
--- `counted_length` meets its contract: 13, 5 and 8 in their order, or what the terms come to with what stands around them.
+-- `counted_length` meets its contract: 13, 5 and 8 in their order, or what the terms come to with what stands around
+-- them.
 use borrow.Author.Needs.{needs}
 use mathlib.Core.Path.{_≡_, sym, ap, ap₂, _∙_}
 use mathlib.Core.Bool.{false}

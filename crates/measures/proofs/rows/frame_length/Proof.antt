@@ -6,7 +6,7 @@ use lib.IntN.{ℤ}
 use lib.ListN.{length}
 use mir.Facts.{toZ-ofZ}
 use Rattle.definitions.specs.Number.{integerText}
-use Rattle.printed.proofs.OneTerm.{weight-length-most}
+use Rattle.shown.proofs.OneTerm.{weight-length-most}
 use Rattle.measures.proofs.Frames.{frame-at-least, frame-equal, frame-no-offset, frame-offset}
 use mir.Syntax.{w64}
 use mir.Val.{toZ, ofZ}

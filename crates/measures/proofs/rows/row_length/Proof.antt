@@ -2,9 +2,9 @@
 use borrow.Author.Needs.{needs}
 use mathlib.Core.Path.{_≡_, sym, ap, _∙_}
 use denote.Ref.{now}
-use Rattle.printed.specs.declared.terms.Style.{Style}
+use Rattle.shown.specs.declared.terms.Style.{Style}
 use Rattle.printed.specs.Kinds.{styleOf}
-use Rattle.printed.specs.Terms.{ownTerms}
+use Rattle.shown.specs.Terms.{ownTerms}
 use Rattle.measures.specs.Tallies.{noTally, tallied, saidTally}
 use Rattle.measures.proofs.Measures.{measured-refused, measured-counted}
 use Rattle.measures.proofs.rows.row_length.Statement.{statement}

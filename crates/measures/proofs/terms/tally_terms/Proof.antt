@@ -10,8 +10,8 @@ use mir.Val.{SFits}
 use mir.Facts.{toZ-ofZ}
 use denote.Ref.{now}
 use Rattle.definitions.specs.Row.{term}
-use Rattle.printed.specs.Terms.{ownTerm, Shows}
-use Rattle.printed.proofs.OneTerm.{shows-as}
+use Rattle.shown.specs.Terms.{ownTerm, Shows}
+use Rattle.shown.proofs.OneTerm.{shows-as}
 use Rattle.measures.proofs.Tallying.{Tallying, tallying-none, tallying-refused, tallying-more, tallying-all}
 use Rattle.measures.proofs.terms.tally_terms.Statement.{statement}
 use Rattle.measures.proofs.terms.tally_terms.Tie as tie

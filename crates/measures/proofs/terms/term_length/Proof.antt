@@ -1,4 +1,5 @@
--- `term_length` meets its contract: the digits of weight and file number, a sign, the two spaces, `x`, and `~` where it stands.
+-- `term_length` meets its contract: the digits of weight and file number, a sign, the two spaces, `x`, and `~` where it
+-- stands.
 use borrow.Author.Needs.{needs}
 use native.Mathlib.Omega.{arith}
 use mathlib.Core.Path.{_≡_, ap, _∙_}
@@ -10,8 +11,8 @@ use mir.Val.{SFits}
 use mir.Facts.{toZ-ofZ}
 use Rattle.definitions.specs.Number.{decimal, integerText}
 use Rattle.definitions.proofs.Numbers.{decimal-length-most}
-use Rattle.printed.specs.declared.terms.Shown.{Shown}
-use Rattle.printed.proofs.OneTerm.{weight-length-most, term-words-tilde, term-words-plain}
+use Rattle.shown.specs.declared.terms.Shown.{Shown}
+use Rattle.shown.proofs.OneTerm.{weight-length-most, term-words-tilde, term-words-plain}
 use Rattle.measures.proofs.terms.term_length.Statement.{statement}
 use Rattle.measures.proofs.terms.term_length.Tie as tie
 

@@ -1,6 +1,6 @@
--- `normaliser::fill::fill_row` meets its contract: a comment as it is, or the row's terms, whose parts are handed on, and its bound
--- moved (proofs/Fills.antt). Assumes nothing.
-use mathlib.Core.Path.{_≡_}
+-- `normaliser::fill::fill_row` meets its contract: a comment as it is, or the row's terms, whose parts are handed on,
+-- and its bound moved (proofs/Fills.antt). Assumes nothing.
+use mathlib.Core.Path.{_≡_, ap, _∙_}
 use mathlib.Core.List.{List}
 use Prim.Native.Nat.{ℕ, _+_, _-_, _≤_, min}
 use native.Mathlib.Omega.{arith}
@@ -11,12 +11,14 @@ use lib.ListN.{length, take, drop}
 use mir.Syntax.{w64}
 use mir.Val.{SFits, toZ, ofZ}
 use mir.Facts.{toZ-ofZ}
+use Rattle.definitions.specs.declared.Kind.{Kind}
 use Rattle.definitions.specs.declared.Entry.{Entry}
 use Rattle.definitions.proofs.Whole.{true-in}
 use Rattle.columns.specs.Kinds.{readKind}
-use Rattle.normaliser.specs.Parts.{weightRises, shiftBy}
+use Rattle.shifts.specs.Shifts.{weightRises, shiftBy, shiftOf}
+use Rattle.shifts.proofs.Rises.{shift-whole}
+use Rattle.normal_checks.proofs.Entries.{accepted-row}
 use Rattle.normaliser.specs.Fill.{TermsReady}
-use Rattle.normaliser.proofs.Entries.{accepted-row}
 use Rattle.normaliser.proofs.Fills.{row-within, row-ready, filled-comment, filled-row}
 use Rattle.normaliser.proofs.fill.fill_row.Statement.{statement}
 use Rattle.normaliser.proofs.fill.fill_row.Tie as tie
@@ -53,24 +55,31 @@ ready c =
     rw (counted s) (row-ready (now (s .args .weights)) (now (s .args .literals)) (entry s) (now (s .args .outweights))
     (now (s .args .outliterals)) (c .if1 .left) (s .pre))
 
--- the bound, moved
-moves : (c : tie.After-shift-of)
-    → toZ w64 (ofZ w64 (start (back (c .before .before)) .args .bound)) +ℤ toZ w64 (ofZ w64 (c .shift-of .result))
-    ≡ start (back (c .before .before)) .args .bound
-    +ℤ shiftBy (readKind (start (back (c .before .before)) .args .kind)) (weightRises (weightsPart (start (back (c .before .before)))))
-moves c =
-    let s = start (back (c .before .before)) in
-    let f : SFits w64 (c .shift-of .result) = record { sfits = c .shift-of .ok } in
-    rw (toZ-ofZ (s .fits .bound), toZ-ofZ f, c .shift-of .ensures)
+-- what the bound moves by, and the bound, moved
+module _ (c : tie.After-shift-of) where
+  abbrev called : tie.Else1
+  called = back (c .before .before .before)
 
-fits : (c : tie.After-shift-of)
-    → SFits w64 (start (back (c .before .before)) .args .bound
-    +ℤ shiftBy (readKind (start (back (c .before .before)) .args .kind)) (weightRises (weightsPart (start (back (c .before .before))))))
-fits c =
-    let d = back (c .before .before) in
-    let s = start d in
-    let r = accepted-row (now (s .args .weights)) (now (s .args .literals)) (entry s) (s .pre .given) (s .pre .accepts) (d .if1 .left) in
-    rw (counted s) (true-in _ (r .bounded))
+  abbrev shift : ℤ
+  shift = shiftBy (readKind (start called .args .kind)) (weightRises (weightsPart (start called)))
+
+  shifted : c .shift-of .result ≡ shift
+  shifted =
+      let s = start called in
+      c .shift-of .ensures ∙ ap (λ (k : Kind). shiftOf k (weightsPart s)) (c .before .before .read-kind .ensures)
+      ∙ shift-whole (readKind (s .args .kind)) (weightsPart s) (ready called .small)
+
+  moves : toZ w64 (ofZ w64 (start called .args .bound)) +ℤ toZ w64 (ofZ w64 (c .shift-of .result)) ≡ start called .args .bound +ℤ shift
+  moves =
+      let f : SFits w64 (c .shift-of .result) = record { sfits = c .shift-of .ok } in
+      rw (toZ-ofZ (start called .fits .bound), toZ-ofZ f, shifted)
+
+  fits : SFits w64 (start called .args .bound +ℤ shift)
+  fits =
+      let s = start called in
+      let r =
+      accepted-row (now (s .args .weights)) (now (s .args .literals)) (entry s) (s .pre .given) (s .pre .accepts) (called .if1 .left) in
+      rw (counted s) (true-in _ (r .bounded))
 
 returns : tie.Need-returns
 returns c =
@@ -109,8 +118,11 @@ part-fill-terms-end-2 c = omega (arith, ends (c .before))
 fill-terms-requires : tie.Need-fill-terms-requires
 fill-terms-requires c κs = ready (c .before .before .before .before)
 
+read-kind-requires : tie.Need-read-kind-requires
+read-kind-requires c κs = search needs
+
 mul-shift-of : tie.Need-mul-shift-of
-mul-shift-of c = let d = back c in omega (arith, ends d, start d .good)
+mul-shift-of c = let d = back (c .before) in omega (arith, ends d, start d .good)
 
 sub-shift-of : tie.Need-sub-shift-of
 sub-shift-of c = search needs
@@ -119,13 +131,13 @@ part-shift-of-start : tie.Need-part-shift-of-start
 part-shift-of-start c = search needs
 
 part-shift-of-end : tie.Need-part-shift-of-end
-part-shift-of-end c = let d = back c in omega (arith, ends d)
+part-shift-of-end c = let d = back (c .before) in omega (arith, ends d)
 
 shift-of-requires : tie.Need-shift-of-requires
-shift-of-requires c κs = ready (back (c .before)) .small
+shift-of-requires c κs = search needs
 
-add-t31 : tie.Need-add-t31
-add-t31 c = rw (moves c) (fits c)
+add-t32 : tie.Need-add-t32
+add-t32 c = rw (moves c) (fits c)
 
 same-length : tie.Need-same-length
 same-length c = search needs
@@ -135,9 +147,9 @@ same-length-2 c = search needs
 
 returns-2 : tie.Need-returns-2
 returns-2 c =
-    let d = back (c .before .before) in
+    let d = called c in
     let s = start d in
-    let e = c .before .before .before .before .before .fill-terms .ensures in
+    let e = c .before .before .before .before .before .before .fill-terms .ensures in
     rw (moves c, toZ-ofZ (fits c), counted s)
     (filled-row (now (s .args .weights)) (now (s .args .literals)) (entry s) (now (s .args .outweights)) (now (s .args .outliterals))
     (s .args .term) (d .if1 .left) _ _ (rw (counted s) at e))
@@ -157,12 +169,13 @@ fill-row-spec =
     part-fill-terms-start-2
     part-fill-terms-end-2
     fill-terms-requires
+    read-kind-requires
     mul-shift-of
     sub-shift-of
     part-shift-of-start
     part-shift-of-end
     shift-of-requires
-    add-t31
+    add-t32
     same-length
     same-length-2
     returns-2)

@@ -1,5 +1,5 @@
--- `normaliser::fill::fill_rows` meets its contract. The loop's invariant: the rows before i are filled, with their terms
--- (`Filling`, proofs/Fills.antt). The measure is what is left of the rows. Assumes nothing.
+-- `normaliser::fill::fill_rows` meets its contract. The loop's invariant: the rows before i are filled, with their
+-- terms (`Filling`, proofs/Fills.antt). The measure is what is left of the rows. Assumes nothing.
 use Prim.Native.Nat.{_-_, _≤_, _<_}
 use native.Mathlib.Omega.{arith}
 use borrow.Author.Needs.{needs}

@@ -1,5 +1,5 @@
--- `normaliser::fill::fill_terms` meets its contract. The loop's invariant: the first i terms, normal, stand in both columns
--- (`Written`, proofs/NormalTerms.antt). The measure is what is left of the length. Assumes nothing.
+-- `normaliser::fill::fill_terms` meets its contract. The loop's invariant: the first i terms, normal, stand in both
+-- columns (`Written`, proofs/NormalTerms.antt). The measure is what is left of the length. Assumes nothing.
 use mathlib.Core.Path.{_≡_, sym, ap, _∙_}
 use mathlib.Core.List.{List, map-map}
 use Prim.Native.Nat.{ℕ, _-_, _≤_}

@@ -1,4 +1,5 @@
--- `normaliser::fill::normal_term` meets its contract: a weight whose size is at most M has its opposite in 64 signed bits. Assumes nothing.
+-- `normaliser::fill::normal_term` meets its contract: a weight whose size is at most M has its opposite in 64 signed
+-- bits. Assumes nothing.
 use mathlib.Core.Path.{_≡_, ap₂, _∙_}
 use mathlib.Core.Bool.{true}
 use borrow.Author.Needs.{needs}

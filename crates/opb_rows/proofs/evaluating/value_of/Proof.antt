@@ -3,8 +3,8 @@ use mathlib.Core.Path.{sym, ap}
 use mir.Syntax.{w64}
 use mir.Val.{SFits}
 use mir.Facts.{toZ-ofZ}
-use Rattle.evaluator.specs.Said.{saidEvaluated}
-use Rattle.evaluator.specs.declared.Evaluated.{Evaluated}
+use Rattle.verdicts.specs.Said.{saidEvaluated}
+use Rattle.verdicts.specs.declared.Evaluated.{Evaluated}
 use Rattle.opb_rows.specs.Answers.{valueAnswer}
 use borrow.Author.Needs.{needs}
 use Rattle.opb_rows.proofs.evaluating.value_of.Statement.{statement}

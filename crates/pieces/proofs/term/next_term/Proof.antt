@@ -1,4 +1,5 @@
--- `next_term` meets its contract: a digit or sign is what begins a constraint, and there a term is read (proofs/Terms.antt).
+-- `next_term` meets its contract: a digit or sign is what begins a constraint, and there a term is read
+-- (proofs/Terms.antt).
 use borrow.Author.Needs.{needs}
 use mathlib.Core.Path.{_≡_, sym, ap, _∙_}
 use denote.Ref.{now}

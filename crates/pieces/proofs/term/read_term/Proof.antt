@@ -86,8 +86,8 @@ enum-known-e c = search needs
 enum-known-weight : tie.Need-enum-known-weight
 enum-known-weight c = search needs
 
-add-t16 : tie.Need-add-t16
-add-t16 c =
+add-t17 : tie.Need-add-t17
+add-t17 c =
     let d = c .before .before .before in
     let p = place d in
     omega (
@@ -123,6 +123,6 @@ read-term-spec =
     read-weighted-requires
     enum-known-e
     enum-known-weight
-    add-t16
+    add-t17
     returns-2
     returns-3)

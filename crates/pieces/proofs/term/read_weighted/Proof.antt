@@ -1,4 +1,5 @@
--- `read_weighted` meets its contract: blanks, a literal and blanks, each read on what the one before left (proofs/Terms.antt).
+-- `read_weighted` meets its contract: blanks, a literal and blanks, each read on what the one before left
+-- (proofs/Terms.antt).
 use borrow.Author.Needs.{needs}
 use native.Mathlib.Omega.{arith}
 use mathlib.Core.Path.{_≡_, sym, ap, _∙_}
@@ -12,7 +13,7 @@ use Rattle.definitions.specs.Reader.{got}
 use Rattle.definitions.specs.Text.{literal}
 use Rattle.definitions.proofs.Parts.{part-is}
 use Rattle.definitions.proofs.Texts.{blanks-within}
-use Rattle.pieces.specs.Said.{saidLiteral}
+use Rattle.literal_read.specs.Said.{saidLiteral}
 use Rattle.pieces.proofs.Terms.{literal-ends-within, blanks-end-within, after-weight-no-blank}
 use Rattle.pieces.proofs.Terms.{after-weight-no-literal, after-weight-literal}
 use Rattle.pieces.proofs.term.read_weighted.Statement.{statement}
@@ -102,8 +103,8 @@ part-blanks-of-end c = search needs
 blanks-of-requires-2 : tie.Need-blanks-of-requires-2
 blanks-of-requires-2 c κs = search needs
 
-add-t18 : tie.Need-add-t18
-add-t18 c =
+add-t19 : tie.Need-add-t19
+add-t19 c =
     let d = told c in
     let p = place d in
     omega (arith, blanks-end-within _ (text p) (skipped p) (skipped-is p) (code d) (count d) (read d) _ (last-is c), start p .good .0 .0)
@@ -135,6 +136,6 @@ read-weighted-spec =
     part-blanks-of-start
     part-blanks-of-end
     blanks-of-requires-2
-    add-t18
+    add-t19
     returns-2
     returns-3)

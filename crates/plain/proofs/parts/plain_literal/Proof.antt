@@ -1,4 +1,5 @@
--- `plain_literal` meets its contract: `x` or `~x` and digits up to the gap are all that there is of a literal (proofs/PlainParts.antt).
+-- `plain_literal` meets its contract: `x` or `~x` and digits up to the gap are all that there is of a literal
+-- (proofs/PlainParts.antt).
 use Prim.Native.Nat.{ℕ}
 use mathlib.Core.List.{List}
 use native.Mathlib.Omega.{arith}

@@ -1,4 +1,5 @@
--- `plain_weight` meets its contract: digits up to the gap, or a `-` and digits, are all that there is of a weight (proofs/PlainParts.antt).
+-- `plain_weight` meets its contract: digits up to the gap, or a `-` and digits, are all that there is of a weight
+-- (proofs/PlainParts.antt).
 use Prim.Native.Nat.{ℕ}
 use mathlib.Core.List.{List}
 use native.Mathlib.Omega.{arith}

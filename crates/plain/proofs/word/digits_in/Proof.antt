@@ -1,5 +1,5 @@
--- `digits_in` meets its contract: the lanes are digits exactly if the word's bytes are, and then their value is the lanes'
--- (proofs/DigitLanes.antt).
+-- `digits_in` meets its contract: the lanes are digits exactly if the word's bytes are, and then their value is the
+-- lanes' (proofs/DigitLanes.antt).
 use mathlib.Core.Path.{sym, _∙_}
 use borrow.Author.Needs.{needs}
 use Rattle.plain.proofs.DigitLanes.{digits-test, digits-are}

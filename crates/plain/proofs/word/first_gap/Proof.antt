@@ -1,4 +1,5 @@
--- `word::first_gap` meets its contract: the lowest bit that is set in `!word & marks` is one of the marks and none of the word's.
+-- `word::first_gap` meets its contract: the lowest bit that is set in `!word & marks` is one of the marks and none of
+-- the word's.
 use Rattle.plain.proofs.Gaps.{gap-first}
 use Rattle.plain.proofs.word.first_gap.Statement.{statement}
 use Rattle.plain.proofs.word.first_gap.Tie as tie

@@ -4,7 +4,7 @@ use mathlib.Core.Path.{sym, ap, _∙_}
 use Prim.Native.Nat.{ℕ}
 use mir.Facts.{toZ-ofZ}
 use Rattle.definitions.specs.Table.{Sort, sortOf}
-use Rattle.printed.specs.declared.kinds.Kind.the-variants.{AtLeast, AtMost, Equal, Objective}
+use Rattle.definitions.specs.declared.Kind.the-variants.{AtLeast as atLeast, AtMost as atMost, Equal as equal, Objective as objective}
 use Rattle.printed.specs.Kinds.{weightedSort, cardinalitySort, sortSaid}
 use Rattle.printed.proofs.Sorts.{sort-unknown}
 use Rattle.printed.proofs.kinds.sort_of.Statement.{statement}
@@ -42,28 +42,28 @@ returns-2 : tie.Need-returns-2
 unfolding sortOf
 returns-2 c =
     let s = c .before .before in
-    c .weighted .ensures ∙ ap (weightedSort AtLeast) (toZ-ofZ (s .fits .bound))
+    c .weighted .ensures ∙ ap (weightedSort atLeast) (toZ-ofZ (s .fits .bound))
     ∙ sym (ap (λ (k : ℕ). sortSaid (sortOf k) (s .args .bound)) (c .before .match .keys2))
 
 returns-3 : tie.Need-returns-3
 unfolding sortOf
 returns-3 c =
     let s = c .before .before in
-    c .weighted2 .ensures ∙ ap (weightedSort AtMost) (toZ-ofZ (s .fits .bound))
+    c .weighted2 .ensures ∙ ap (weightedSort atMost) (toZ-ofZ (s .fits .bound))
     ∙ sym (ap (λ (k : ℕ). sortSaid (sortOf k) (s .args .bound)) (c .before .match .keys3))
 
 returns-4 : tie.Need-returns-4
 unfolding sortOf
 returns-4 c =
     let s = c .before .before in
-    c .weighted3 .ensures ∙ ap (weightedSort Equal) (toZ-ofZ (s .fits .bound))
+    c .weighted3 .ensures ∙ ap (weightedSort equal) (toZ-ofZ (s .fits .bound))
     ∙ sym (ap (λ (k : ℕ). sortSaid (sortOf k) (s .args .bound)) (c .before .match .keys4))
 
 returns-5 : tie.Need-returns-5
 unfolding sortOf
 returns-5 c =
     let s = c .before .before in
-    c .weighted4 .ensures ∙ ap (weightedSort Objective) (toZ-ofZ (s .fits .bound))
+    c .weighted4 .ensures ∙ ap (weightedSort objective) (toZ-ofZ (s .fits .bound))
     ∙ sym (ap (λ (k : ℕ). sortSaid (sortOf k) (s .args .bound)) (c .before .match .keys5))
 
 returns-6 : tie.Need-returns-6
@@ -74,21 +74,21 @@ returns-7 : tie.Need-returns-7
 unfolding sortOf
 returns-7 c =
     let s = c .before .before in
-    c .cardinality2 .ensures ∙ ap (cardinalitySort AtLeast) (toZ-ofZ (s .fits .bound))
+    c .cardinality2 .ensures ∙ ap (cardinalitySort atLeast) (toZ-ofZ (s .fits .bound))
     ∙ sym (ap (λ (k : ℕ). sortSaid (sortOf k) (s .args .bound)) (c .before .match .keys7))
 
 returns-8 : tie.Need-returns-8
 unfolding sortOf
 returns-8 c =
     let s = c .before .before in
-    c .cardinality3 .ensures ∙ ap (cardinalitySort AtMost) (toZ-ofZ (s .fits .bound))
+    c .cardinality3 .ensures ∙ ap (cardinalitySort atMost) (toZ-ofZ (s .fits .bound))
     ∙ sym (ap (λ (k : ℕ). sortSaid (sortOf k) (s .args .bound)) (c .before .match .keys8))
 
 returns-9 : tie.Need-returns-9
 unfolding sortOf
 returns-9 c =
     let s = c .before .before in
-    c .cardinality4 .ensures ∙ ap (cardinalitySort Equal) (toZ-ofZ (s .fits .bound))
+    c .cardinality4 .ensures ∙ ap (cardinalitySort equal) (toZ-ofZ (s .fits .bound))
     ∙ sym (ap (λ (k : ℕ). sortSaid (sortOf k) (s .args .bound)) (c .before .match .keys9))
 
 returns-10 : tie.Need-returns-10

@@ -3,7 +3,7 @@ use borrow.Author.Needs.{needs}
 use mathlib.Core.Path.{_≡_}
 use mathlib.Core.Bool.{Bool}
 use Prim.Native.Nat.{ℕ}
-use Rattle.printed.specs.declared.terms.Style.{Style}
+use Rattle.shown.specs.declared.terms.Style.{Style}
 use Rattle.printed.proofs.kinds.style_of.Statement.{statement}
 use Rattle.printed.proofs.kinds.style_of.Tie as tie
 

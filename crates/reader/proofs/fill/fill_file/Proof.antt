@@ -1,5 +1,5 @@
--- `fill_file` meets its contract: what is filled so far is the invariant (proofs/FillLines.antt), and each statement adds its line
--- and its terms.
+-- `fill_file` meets its contract: what is filled so far is the invariant (proofs/FillLines.antt), and each statement
+-- adds its line and its terms.
 use Prim.Native.Nat.{ℕ, _-_}
 use mathlib.Core.Path.{_≡_, sym, ap, _∙_}
 use mathlib.Core.List.{List}

@@ -21,11 +21,11 @@ enum-told c = search needs
 enum-known-r : tie.Need-enum-known-r
 enum-known-r c = search needs
 
-add-t7 : tie.Need-add-t7
-add-t7 c = record { fits = fits c .0 }
-
 add-t9 : tie.Need-add-t9
-add-t9 c = record { fits = fits c .1 }
+add-t9 c = record { fits = fits c .0 }
+
+add-t11 : tie.Need-add-t11
+add-t11 c = record { fits = fits c .1 }
 
 returns : tie.Need-returns
 returns c = rw (c .enum-told .given .1)
@@ -34,4 +34,4 @@ returns-2 : tie.Need-returns-2
 returns-2 c = rw (c .before .r .given .1)
 
 pub comment-after-spec : {M : Type 1} → statement M
-comment-after-spec = tie.close (tie.spec enum-told enum-known-r add-t7 add-t9 returns returns-2)
+comment-after-spec = tie.close (tie.spec enum-told enum-known-r add-t9 add-t11 returns returns-2)

@@ -1,16 +1,19 @@
 -- `constraint` meets its contract: a sum, and what closes it on the part that it left (proofs/Rows.antt).
 use Prim.Native.Nat.{ℕ, _≤_}
 use mathlib.Core.List.{List}
-use mathlib.Core.Path.{sym, ap, _∙_}
+use mathlib.Core.Path.{_≡_, sym, ap, subst, _∙_}
+use native.Mathlib.Omega.{arith}
 use borrow.Author.Needs.{needs}
 use denote.Ref.{now}
-use lib.ListN.{length}
+use lib.ListN.{length, drop, length-drop}
+use Rattle.definitions.specs.Reader.{more}
 use Rattle.definitions.specs.Text.{comparison}
 use Rattle.definitions.proofs.Parts.{part-is}
 use Rattle.definitions.proofs.Statements.{sum-within}
-use Rattle.statements.specs.Brief.{closedBy}
+use Rattle.closings.specs.Closed.{saidRow, closedBy}
+use Rattle.statements.specs.Fitting.{Fitting}
 use Rattle.sums.specs.Brief.{saidSum}
-use Rattle.statements.proofs.Rows.{constraint-no-sum, constraint-sum}
+use Rattle.statements.proofs.Rows.{constraint-no-sum, constraint-sum, closed-fits}
 use Rattle.sums.proofs.Sums.{SumIs, sum-of, sum-refused}
 use Rattle.statements.proofs.statement.constraint.Statement.{statement}
 use Rattle.statements.proofs.statement.constraint.Tie as tie
@@ -67,6 +70,24 @@ same-length c = search needs
 same-length-2 : tie.Need-same-length-2
 same-length-2 c = search needs
 
+-- and what closes it
+module _ (c : tie.After-close-constraint) where
+  abbrev told : tie.After-known-told2
+  told = c .before .before
+
+  closed : saidRow (c .close-constraint .result)
+      ≡ closedBy (start told .args .options) (terms told) (size told) (comparison (drop (count told) (text told)))
+  closed =
+      c .close-constraint .ensures
+      ∙ ap (λ (t : List ℕ). closedBy (start told .args .options) (terms told) (size told) (comparison t)) (part-is (text told) (count told))
+
+behind-requires : tie.Need-behind-requires
+behind-requires c κs =
+    let d = told c in
+    subst (Fitting (count d)) (sym (closed c))
+    (closed-fits (start d .args .options) (terms d) (size d) (count d) (drop (count d) (text d))
+    (omega (arith, within d, length-drop (count d) (text d), start d .good .0 .0)))
+
 returns : tie.Need-returns
 returns c =
     record {
@@ -85,12 +106,10 @@ same-length-4 c = search needs
 
 returns-2 : tie.Need-returns-2
 returns-2 c =
-    let d = c .before .before in
+    let b = c .before in
+    let d = told b in
     record {
-      answer =
-          c .close-constraint .ensures
-          ∙ ap (λ (t : List ℕ). closedBy (terms d) (size d) (count d) (comparison t)) (part-is (text d) (count d))
-          ∙ constraint-sum _ (text d) _ _ _ (sum-is d);
+      answer = c .behind .ensures ∙ ap (more (count d)) (closed b) ∙ constraint-sum _ (text d) _ _ _ (sum-is d);
       filled = d .before .before .before .before .before .before .weighted-lit-sum .ensures .filled;
     }
 
@@ -105,6 +124,7 @@ constraint-spec =
     part-close-constraint-start
     part-close-constraint-end
     close-constraint-requires
+    behind-requires
     same-length
     same-length-2
     returns

@@ -1,23 +1,25 @@
--- `objective` meets its contract: `min:` and blanks, a sum, and an ending, each on the part that the last one left (proofs/Rows.antt).
+-- `objective` meets its contract: `min:` and blanks, a sum, and an ending, each on the part that the last one left
+-- (proofs/Rows.antt).
 use Prim.Native.Nat.{ℕ, _+_, _≤_}
 use mathlib.Core.List.{List}
-use mathlib.Core.Path.{_≡_, sym, ap, _∙_}
+use mathlib.Core.Path.{_≡_, sym, ap, subst, _∙_}
 use native.Mathlib.Omega.{arith}
 use borrow.Author.Needs.{needs}
 use denote.Ref.{now}
 use lib.ListN.{length, drop, length-drop}
-use Rattle.definitions.specs.Reader.{got}
+use Rattle.definitions.specs.Reader.{got, more}
 use Rattle.definitions.specs.Text.{sum, minBlanks, ending}
 use Rattle.definitions.proofs.Parts.{part-is}
 use Rattle.definitions.proofs.Statements.{sum-within, within-min-blanks}
 use Rattle.beginnings.specs.Said.{saidMin}
 use Rattle.sums.specs.Brief.{summed}
-use Rattle.statements.specs.Brief.{endedBy}
+use Rattle.closings.specs.Closed.{saidRow, endedBy}
+use Rattle.statements.specs.Fitting.{Fitting}
 use Rattle.sums.specs.Brief.{saidSum}
 use Rattle.sums.specs.Walked.{TermsPut}
 use Rattle.statements.specs.Met.{goalMet}
 use Rattle.statements.proofs.MetTerms.{none-put, goal-none, goal-behind}
-use Rattle.statements.proofs.Rows.{goal-no-min, goal-no-sum, goal-sum}
+use Rattle.statements.proofs.Rows.{goal-no-min, goal-no-sum, goal-sum, ended-fits}
 use Rattle.sums.proofs.Sums.{SumIs, sum-of, sum-refused}
 use Rattle.statements.proofs.statement.objective.Statement.{statement}
 use Rattle.statements.proofs.statement.objective.Tie as tie
@@ -109,7 +111,7 @@ enum-told c = search needs
 returns : tie.Need-returns
 returns c =
     let q = sym (c .before .before .read-min .ensures) ∙ ap saidMin (c .enum-told .given .1) in
-    record { answer = goal-no-min _ _ q; filled = rw (goal-none _ _ 2 q) (none-put _ _) }
+    record { answer = goal-no-min _ _ q; filled = rw (goal-none _ _ _ q) (none-put _ _) }
 
 add-a : tie.Need-add-a
 add-a c = omega (arith, min-within c)
@@ -145,15 +147,29 @@ part-close-objective-end : tie.Need-part-close-objective-end
 part-close-objective-end c = search needs
 
 close-objective-requires : tie.Need-close-objective-requires
-close-objective-requires c κs =
-    let d = c .before in
-    omega (
-      arith,
-      sum-end-within d,
-      ap length (part-is (whole d) (from d + count d)),
-      length-drop (from d + count d) (whole d),
-      start (behind-min (at-sum d)) .good .0 .0,
-    )
+close-objective-requires c κs = search needs
+
+-- and what closes it
+module _ (c : tie.After-close-objective) where
+  abbrev told : tie.After-known-told3
+  told = c .before .before
+
+  abbrev end : ℕ
+  end = from told + count told
+
+  closed : saidRow (c .close-objective .result)
+      ≡ endedBy (start (behind-min (at-sum told)) .args .options) (terms told) (size told) (ending (drop end (whole told)))
+  closed =
+      c .close-objective .ensures
+      ∙ ap (λ (t : List ℕ). endedBy (start (behind-min (at-sum told)) .args .options) (terms told) (size told) (ending t))
+      (part-is (whole told) end)
+
+behind-requires : tie.Need-behind-requires
+behind-requires c κs =
+    let d = told c in
+    subst (Fitting (end c)) (sym (closed c))
+    (ended-fits (start (behind-min (at-sum d)) .args .options) (terms d) (size d) (end c) (drop (end c) (whole d))
+    (omega (arith, sum-end-within d, length-drop (end c) (whole d), start (behind-min (at-sum d)) .good .0 .0)))
 
 same-length : tie.Need-same-length
 same-length c = search needs
@@ -178,11 +194,12 @@ same-length-4 c = search needs
 
 returns-3 : tie.Need-returns-3
 returns-3 c =
-    let d = c .before .before in
+    let b = c .before in
+    let d = told b in
     record {
       answer =
-          c .close-objective .ensures
-          ∙ ap (λ (t : List ℕ). endedBy (terms d) (size d) (from d + count d) (ending t)) (part-is (whole d) (from d + count d))
+          c .behind .ensures
+          ∙ ap (more (end b)) (closed b)
           ∙ goal-sum _ (whole d) _ (from d) (min-got (behind-min (at-sum d))) _ _ (count d) (sum-is d);
       filled = sum-put (at-sum d);
     }
@@ -207,6 +224,7 @@ objective-spec =
     part-close-objective-start
     part-close-objective-end
     close-objective-requires
+    behind-requires
     same-length
     same-length-2
     returns-2

@@ -1,5 +1,5 @@
--- `walk_statement` meets its contract: what the byte behind the blanks begins, and the answer of its reader, so many blanks on
--- (proofs/Rows.antt).
+-- `walk_statement` meets its contract: what the byte behind the blanks begins, and the answer of its reader, so many
+-- blanks on (proofs/Rows.antt).
 use Prim.Native.Nat.{ℕ, _+_, _<_, _^_}
 use mathlib.Core.List.{List}
 use mathlib.Core.Path.{_≡_, sym, ap, subst, _∙_}
@@ -19,7 +19,7 @@ use Rattle.definitions.proofs.Statements.{goal-taken, constraint-taken}
 use Rattle.beginnings.specs.Said.{saidComment}
 use Rattle.statements.specs.Brief.{briefRow, rowAfter, commentAfter}
 use Rattle.statements.specs.Fitting.{Fitting}
-use Rattle.statements.specs.Said.{saidRow}
+use Rattle.closings.specs.Closed.{saidRow}
 use Rattle.statements.specs.Met.{metBy, statementMet}
 use Rattle.statements.proofs.MetTerms.{none-put, end-met, met-begun}
 use Rattle.statements.proofs.Rows.{row-fits, comment-fits, statement-end, statement-comment, statement-goal}

@@ -1,5 +1,5 @@
--- `plain_lit` meets its contract: under its `requires` the file number and the index are there, and no answer is out of range
--- (proofs/Runs.antt).
+-- `plain_lit` meets its contract: under its `requires` the file number and the index are there, and no answer is out of
+-- range (proofs/Runs.antt).
 use borrow.Author.Needs.{needs}
 use mathlib.Core.Path.{_≡_, sym, ap, _∙_}
 use Rattle.definitions.specs.Literal.{index}

@@ -1,5 +1,5 @@
--- `put_plain` meets its contract: both columns have the place, or neither changes (proofs/Walking.antt); what is put is the term's
--- weight and its literal's code.
+-- `put_plain` meets its contract: both columns have the place, or neither changes (proofs/Walking.antt); what is put is
+-- the term's weight and its literal's code.
 use Prim.Native.Nat.{ℕ}
 use borrow.Author.Needs.{needs}
 use native.Mathlib.Omega.{arith}

@@ -1,5 +1,5 @@
--- `tokens::literal_for` meets its contract: the file number, the index and the code are those of the definition (proofs/Says.antt). Assumes
--- nothing.
+-- `tokens::literal_for` meets its contract: the file number, the index and the code are those of the definition
+-- (proofs/Says.antt). Assumes nothing.
 use mathlib.Core.Path.{_≡_, sym, ap, _∙_}
 use Rattle.definitions.specs.Refusal.{refuse, accept}
 use Rattle.definitions.specs.Literal.{index}

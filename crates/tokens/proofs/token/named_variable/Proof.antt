@@ -1,5 +1,5 @@
--- `tokens::named_variable` meets its contract: an `x` is one byte, and the digits behind it are the rest; a number that stopped at the cap
--- says the same. Assumes nothing.
+-- `tokens::named_variable` meets its contract: an `x` is one byte, and the digits behind it are the rest; a number that
+-- stopped at the cap says the same. Assumes nothing.
 use mathlib.Core.Path.{_≡_, sym, ap, _∙_}
 use denote.Ref.{now}
 use lib.ListN.{drop}

@@ -1,5 +1,5 @@
--- `tokens::signed_for` meets its contract: a 0 sets nothing, and any other number has its literal; a number that stopped at the cap says
--- the same. Assumes nothing.
+-- `tokens::signed_for` meets its contract: a 0 sets nothing, and any other number has its literal; a number that
+-- stopped at the cap says the same. Assumes nothing.
 use mathlib.Core.Path.{_≡_, sym, ap, _∙_}
 use denote.Ref.{now}
 use Rattle.definitions.specs.Table.{andThen}

@@ -1,4 +1,5 @@
--- `tokens::signed_token` meets its contract: a sign is one byte, and the digits are the rest, or the whole token. Assumes nothing.
+-- `tokens::signed_token` meets its contract: a sign is one byte, and the digits are the rest, or the whole token.
+-- Assumes nothing.
 use mathlib.Core.Path.{ap, _∙_}
 use mathlib.Core.Bool.{true, false}
 use denote.Ref.{now}

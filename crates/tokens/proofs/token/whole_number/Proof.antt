@@ -1,5 +1,5 @@
--- `tokens::whole_number` meets its contract: no digits, or fewer than there are bytes, are 21; else the number is what the run says.
--- Assumes nothing.
+-- `tokens::whole_number` meets its contract: no digits, or fewer than there are bytes, are 21; else the number is what
+-- the run says. Assumes nothing.
 use mathlib.Core.Logic.{inl, inr}
 use native.Mathlib.Omega.{arith}
 use Rattle.tokens.proofs.Says.{whole-bad, whole-number}

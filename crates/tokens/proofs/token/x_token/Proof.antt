@@ -1,5 +1,5 @@
--- `tokens::x_token` meets its contract: a `~` or `-` is one byte and negates the variable behind it, else the variable stands at the front.
--- Assumes nothing.
+-- `tokens::x_token` meets its contract: a `~` or `-` is one byte and negates the variable behind it, else the variable
+-- stands at the front. Assumes nothing.
 use mathlib.Core.Path.{ap, _∙_}
 use mathlib.Core.Bool.{true}
 use denote.Ref.{now}

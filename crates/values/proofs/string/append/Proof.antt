@@ -1,5 +1,5 @@
--- `string::append` meets its contract. The loop's invariant: what the first i digits leave in both rows (proofs/Strings.antt); the
--- measure is what is left of the length. Assumes nothing.
+-- `string::append` meets its contract. The loop's invariant: what the first i digits leave in both rows
+-- (proofs/Strings.antt); the measure is what is left of the length. Assumes nothing.
 use Prim.Native.Nat.{_-_}
 use native.Mathlib.Omega.{arith}
 use lib.ListN.{length}

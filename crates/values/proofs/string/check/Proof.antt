@@ -1,13 +1,14 @@
--- `string::check` meets its contract: nothing, a line without `v`, or the one string of the block (proofs/Checks.antt). Assumes nothing.
+-- `string::check` meets its contract: nothing, a line without `v`, or the one string of the block (proofs/Checks.antt).
+-- Assumes nothing.
 use mathlib.Core.Path.{_≡_, sym, _∙_}
 use mathlib.Core.List.{List, []}
 use Prim.Native.Nat.{ℕ}
 use borrow.Author.Needs.{needs}
 use denote.Ref.{now}
 use Rattle.definitions.specs.Values.{front, itemsFrom}
-use Rattle.tokens.specs.Steps.{Found, soughtOf, itemBy}
-use Rattle.tokens.specs.declared.items.NextItem.{NextItem}
-use Rattle.tokens.proofs.Found.{found-end, found-line, found-token}
+use Rattle.items.specs.Items.{Found, soughtOf, itemBy}
+use Rattle.items.specs.declared.NextItem.{NextItem}
+use Rattle.items.proofs.Found.{found-end, found-line, found-token}
 use Rattle.values.proofs.Checks.{hear-nothing, hear-line, met-within, met-answer}
 use Rattle.values.proofs.string.check.Statement.{statement}
 use Rattle.values.proofs.string.check.Tie as tie

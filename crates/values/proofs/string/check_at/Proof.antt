@@ -1,4 +1,5 @@
--- `string::check_at` meets its contract: 5, then 22, then what stands behind the string (proofs/Checks.antt). Assumes nothing.
+-- `string::check_at` meets its contract: 5, then 22, then what stands behind the string (proofs/Checks.antt). Assumes
+-- nothing.
 use Prim.Native.Nat.{_≤_}
 use mathlib.Core.List.{[]}
 use native.Mathlib.Omega.{arith}

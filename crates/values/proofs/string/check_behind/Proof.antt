@@ -2,9 +2,9 @@
 use mathlib.Core.Path.{_≡_, sym, ap, _∙_}
 use borrow.Author.Needs.{needs}
 use denote.Ref.{now}
-use Rattle.tokens.specs.Steps.{Found, soughtOf, onFrom, itemBy}
-use Rattle.tokens.specs.declared.items.NextItem.{NextItem}
-use Rattle.tokens.proofs.Found.{found-end, found-line, found-token}
+use Rattle.items.specs.Items.{Found, soughtOf, onFrom, itemBy}
+use Rattle.items.specs.declared.NextItem.{NextItem}
+use Rattle.items.proofs.Found.{found-end, found-line, found-token}
 use Rattle.values.specs.Strings.{behindOf}
 use Rattle.values.proofs.string.check_behind.Statement.{statement}
 use Rattle.values.proofs.string.check_behind.Tie as tie

@@ -1,5 +1,5 @@
--- `string::fits` meets its contract: a length beyond the variables leaves no room, and else what is left of them is the room.
--- Assumes nothing.
+-- `string::fits` meets its contract: a length beyond the variables leaves no room, and else what is left of them is the
+-- room. Assumes nothing.
 use Prim.Native.Nat.{_+_}
 use mathlib.Core.Path.{sym}
 use native.Mathlib.Omega.{arith}

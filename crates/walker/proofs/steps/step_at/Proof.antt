@@ -7,6 +7,7 @@ use native.Mathlib.Omega.{arith}
 use borrow.Author.Needs.{needs}
 use denote.Ref.{now}
 use lib.ListN.{length, drop}
+use Rattle.definitions.specs.declared.Refusal.{Refusal}
 use Rattle.definitions.specs.Limits.{fileLimit}
 use Rattle.definitions.specs.Text.{statement}
 use Rattle.definitions.specs.Walk.{bad, item}
@@ -47,14 +48,11 @@ module _ (c : tie.After-known-told) where
   abbrev at-bad : tie.After-opb-data
   at-bad = c .before .before .before
 
-  abbrev number : ℕ
-  number = c .before .number .given .0 .0
+  abbrev refusal : Refusal
+  refusal = c .before .refusal .given .0 .0
 
-  abbrev blanks : ℕ
-  blanks = c .before .number .given .0 .1 .0
-
-  refusal-is : bad number blanks ≡ briefStep (statement (options at-bad) (drop (place at-bad) (text at-bad)))
-  refusal-is = sym (ap saidStatement (c .before .number .given .1)) ∙ read at-bad
+  refusal-is : bad refusal ≡ briefStep (statement (options at-bad) (drop (place at-bad) (text at-bad)))
+  refusal-is = sym (ap saidStatement (c .before .refusal .given .1)) ∙ read at-bad
 
 -- a row
 module _ (c : tie.After-known-told2) where
@@ -91,13 +89,14 @@ opb-data-requires c κs = search needs
 enum-told : tie.Need-enum-told
 enum-told c = search needs
 
-enum-known-number : tie.Need-enum-known-number
-enum-known-number c = search needs
+enum-known-refusal : tie.Need-enum-known-refusal
+enum-known-refusal c = search needs
 
 add-t17 : tie.Need-add-t17
 add-t17 c =
-    let d = at-bad c in
-    omega (arith, refusal-fits (options d) (text d) (place d) (short d) (within d) (number c) (blanks c) (refusal-is c))
+    let e = c .before in
+    let d = at-bad e in
+    omega (arith, refusal-fits (options d) (text d) (place d) (short d) (within d) (refusal e) (refusal-is e))
 
 enum-known-entry : tie.Need-enum-known-entry
 enum-known-entry c = search needs
@@ -110,8 +109,8 @@ add-first-of c =
 first-of-requires : tie.Need-first-of-requires
 first-of-requires c κs = search needs
 
-add-t20 : tie.Need-add-t20
-add-t20 c =
+add-t19 : tie.Need-add-t19
+add-t19 c =
     let e = c .before .before in
     let d = here e in
     omega (arith, next-fits (options d) (text d) (place d) (short d) (within d) _ _ (line-is e))
@@ -123,8 +122,9 @@ returns-3 c =
 
 returns-4 : tie.Need-returns-4
 returns-4 c =
-    let d = at-bad c in
-    step-refused (options d) (text d) (place d) (short d) (within d) (number c) (blanks c) (refusal-is c)
+    let e = c .before in
+    let d = at-bad e in
+    step-refused (options d) (text d) (place d) (short d) (within d) (refusal e) (refusal-is e)
 
 returns-5 : tie.Need-returns-5
 returns-5 c =
@@ -143,12 +143,12 @@ step-at-spec =
     part-opb-data-end
     opb-data-requires
     enum-told
-    enum-known-number
+    enum-known-refusal
     add-t17
     enum-known-entry
     add-first-of
     first-of-requires
-    add-t20
+    add-t19
     returns-3
     returns-4
     returns-5)

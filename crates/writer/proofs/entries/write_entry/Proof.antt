@@ -12,7 +12,6 @@ use Rattle.printed.specs.declared.kinds.Sort as said
 use Rattle.printed.specs.declared.kinds.Sort.the-variants.{Comment, Row, Refused}
 use Rattle.printed.specs.Kinds.{sortSaid}
 use Rattle.printed.specs.Rows.{entryOf, onColumns}
-use Rattle.definitions.proofs.Puts.{puts-as}
 use Rattle.printed.proofs.OneEntry.{itemFor, written-by}
 use Rattle.writer.proofs.OneEntry.{CommentReady, comment-ready, PartReady, part-ready, never-refused}
 use Rattle.writer.proofs.entries.write_entry.Statement.{statement}
@@ -53,7 +52,7 @@ rowed c =
     _ (written d (Row (c .before .shape .given .0 .0)) (sym (c .before .shape .given .1) ∙ sorted d))
 
 sort-of-requires : tie.Need-sort-of-requires
-sort-of-requires c κs = search needs
+sort-of-requires c κs = tt
 
 enum-told : tie.Need-enum-told
 enum-told c = search needs
@@ -61,20 +60,20 @@ enum-told c = search needs
 add-end : tie.Need-add-end
 add-end c = omega (arith, commented c .inside, start (c .before .before) .good)
 
-sub-write-comment : tie.Need-sub-write-comment
-sub-write-comment c = search needs
+sub-put-remark : tie.Need-sub-put-remark
+sub-put-remark c = search needs
 
-part-write-comment-start : tie.Need-part-write-comment-start
-part-write-comment-start c = search needs
+part-put-remark-start : tie.Need-part-put-remark-start
+part-put-remark-start c = search needs
 
-part-write-comment-end : tie.Need-part-write-comment-end
-part-write-comment-end c =
+part-put-remark-end : tie.Need-part-put-remark-end
+part-put-remark-end c =
     let s = start (c .before .before) in
     let h : s .args .first + s .args .count ≤ length (now (s .args .text)) = commented c .inside in
     h
 
-write-comment-requires : tie.Need-write-comment-requires
-write-comment-requires c κs = commented (c .before .before) .room
+put-remark-requires : tie.Need-put-remark-requires
+put-remark-requires c κs = tt
 
 enum-known-shape : tie.Need-enum-known-shape
 enum-known-shape c = search needs
@@ -82,38 +81,38 @@ enum-known-shape c = search needs
 add-end-2 : tie.Need-add-end-2
 add-end-2 c = omega (arith, rowed c .inside, start (c .before .before .before) .good)
 
-mul-write-row : tie.Need-mul-write-row
-mul-write-row c = omega (arith, rowed c .inside, start (c .before .before .before) .good)
+mul-put-row : tie.Need-mul-put-row
+mul-put-row c = omega (arith, rowed c .inside, start (c .before .before .before) .good)
 
-sub-write-row : tie.Need-sub-write-row
-sub-write-row c = search needs
+sub-put-row : tie.Need-sub-put-row
+sub-put-row c = search needs
 
-part-write-row-start : tie.Need-part-write-row-start
-part-write-row-start c = search needs
+part-put-row-start : tie.Need-part-put-row-start
+part-put-row-start c = search needs
 
-part-write-row-end : tie.Need-part-write-row-end
-part-write-row-end c =
+part-put-row-end : tie.Need-part-put-row-end
+part-put-row-end c =
     let s = start (c .before .before .before) in
     let h : s .args .first + s .args .count ≤ length (now (s .args .weights)) = omega (arith, rowed c .inside) in
     h
 
-mul-write-row-2 : tie.Need-mul-write-row-2
-mul-write-row-2 c = omega (arith, rowed (c .before) .inside, start (c .before .before .before .before) .good)
+mul-put-row-2 : tie.Need-mul-put-row-2
+mul-put-row-2 c = omega (arith, rowed (c .before) .inside, start (c .before .before .before .before) .good)
 
-sub-write-row-2 : tie.Need-sub-write-row-2
-sub-write-row-2 c = search needs
+sub-put-row-2 : tie.Need-sub-put-row-2
+sub-put-row-2 c = search needs
 
-part-write-row-start-2 : tie.Need-part-write-row-start-2
-part-write-row-start-2 c = search needs
+part-put-row-start-2 : tie.Need-part-put-row-start-2
+part-put-row-start-2 c = search needs
 
-part-write-row-end-2 : tie.Need-part-write-row-end-2
-part-write-row-end-2 c =
+part-put-row-end-2 : tie.Need-part-put-row-end-2
+part-put-row-end-2 c =
     let s = start (c .before .before .before .before) in
     let h : s .args .first + s .args .count ≤ length (now (s .args .literals)) = omega (arith, rowed (c .before) .inside) in
     h
 
-write-row-requires : tie.Need-write-row-requires
-write-row-requires c κs = rowed (c .before .before .before) .ready
+put-row-requires : tie.Need-put-row-requires
+put-row-requires c κs = tt
 
 enum-told-2 : tie.Need-enum-told-2
 enum-told-2 c = search needs
@@ -122,13 +121,13 @@ same-length : tie.Need-same-length
 same-length c = search needs
 
 returns : tie.Need-returns
-returns c = puts-as (c .before .before .write-comment .ensures) (commented (c .before .before .before .before .before) .is)
+returns c = commented (c .before .before .before .before .before) .puts (c .before .before .put-remark .ensures)
 
 same-length-2 : tie.Need-same-length-2
 same-length-2 c = search needs
 
 returns-2 : tie.Need-returns-2
-returns-2 c = puts-as (c .before .before .write-row .ensures) (rowed (c .before .before .before .before .before .before) .is)
+returns-2 c = rowed (c .before .before .before .before .before .before) .puts (c .before .before .put-row .ensures)
 
 returns-3 : tie.Need-returns-3
 returns-3 c =
@@ -144,21 +143,21 @@ write-entry-spec =
     sort-of-requires
     enum-told
     add-end
-    sub-write-comment
-    part-write-comment-start
-    part-write-comment-end
-    write-comment-requires
+    sub-put-remark
+    part-put-remark-start
+    part-put-remark-end
+    put-remark-requires
     enum-known-shape
     add-end-2
-    mul-write-row
-    sub-write-row
-    part-write-row-start
-    part-write-row-end
-    mul-write-row-2
-    sub-write-row-2
-    part-write-row-start-2
-    part-write-row-end-2
-    write-row-requires
+    mul-put-row
+    sub-put-row
+    part-put-row-start
+    part-put-row-end
+    mul-put-row-2
+    sub-put-row-2
+    part-put-row-start-2
+    part-put-row-end-2
+    put-row-requires
     enum-told-2
     same-length
     returns

@@ -1,0 +1,4 @@
+pub mod At
+pub mod Blanks
+pub mod Endings
+pub mod OneAnswer

@@ -1,0 +1,3 @@
+pub mod FillTerms
+pub mod FillSteps
+pub mod OneAnswer

@@ -1,0 +1,4 @@
+pub mod Runs
+pub mod Spots
+pub mod Found
+pub mod OneAnswer

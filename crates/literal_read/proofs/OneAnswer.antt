@@ -1,0 +1,23 @@
+-- The public function has one possible answer for each input: two that its contract allows are equal. It changes
+-- nothing that it is lent.
+use Prim.Native.Nat.{ℕ}
+use mathlib.Core.Path.{_≡_, sym, ap, _∙_}
+use Rattle.definitions.proofs.Truths.{never}
+use Rattle.literals.specs.declared.Lit.{Lit}
+use Rattle.literal_read.specs.Said.{saidLiteral}
+use Rattle.literal_read.specs.declared.LiteralRead.{LiteralRead}
+use Rattle.literal_read.specs.declared.LiteralRead.the-variants.{Literal, Refused}
+use Rattle.literal_read.proofs.read_literal.Reads as read-literal
+
+pub same-lit : (l l' : Lit) → l .0 ≡ l' .0 → l ≡ l'
+same-lit l l' e = ap (λ (n : ℕ). record { 0 = n }) e
+
+-- an answer is known by what it says
+pub said-literal : (r r' : LiteralRead) → saidLiteral r ≡ saidLiteral r' → r ≡ r'
+said-literal (Literal l n) (Literal l' n') e = let p : l ≡ l' = same-lit l l' (cc) in cc
+said-literal (Literal l n) (Refused k) e = never (cc)
+said-literal (Refused k) (Literal l' n') e = never (cc)
+said-literal (Refused k) (Refused k') e = cc
+
+pub read-literal-one : (κs : _) (a : _) (r r' : _) (s s' : _) → read-literal.Post κs a r s → read-literal.Post κs a r' s' → r ≡ r'
+read-literal-one κs a r r' s s' p q = said-literal r r' (p ∙ sym q)

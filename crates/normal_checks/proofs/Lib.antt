@@ -1,0 +1,4 @@
+pub mod Entries
+pub mod Checks
+pub mod Answers
+pub mod OneAnswer

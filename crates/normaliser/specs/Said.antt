@@ -1,9 +1,0 @@
--- What each case of the check of one row says: 01's number, or the count of terms.
-use Prim.Native.Nat.{ℕ}
-use Rattle.definitions.specs.Refusal.{Checked, refuse, accept}
-use Rattle.normaliser.specs.declared.check.RowCheck.{RowCheck}
-use Rattle.normaliser.specs.declared.check.RowCheck.the-variants as row
-
-abbrev pub saidRow : RowCheck → Checked ℕ
-saidRow (row.Accepted n) = accept n
-saidRow (row.Refused e) = refuse e

@@ -1,0 +1,4 @@
+pub mod OneTerm
+pub mod AllTerms
+pub mod WeightSums
+pub mod OneAnswer

@@ -1,0 +1,4 @@
+pub mod Literals
+pub mod Sums
+pub mod Orders
+pub mod OneAnswer
