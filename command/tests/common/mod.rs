@@ -32,9 +32,10 @@ pub fn opb(words: &[&str], input: &str) -> (i32, String, String) {
     opb_on(words, input.as_bytes())
 }
 
-/// A folder of these tests alone.
+/// A folder of this test alone: each runs in a thread of its name, beside others that may have files of the same name.
 pub fn folder() -> PathBuf {
-    let folder = PathBuf::from(env!("CARGO_TARGET_TMPDIR")).join(env!("CARGO_CRATE_NAME"));
+    let test = std::thread::current().name().unwrap_or("tests").replace("::", "-");
+    let folder = PathBuf::from(env!("CARGO_TARGET_TMPDIR")).join(env!("CARGO_CRATE_NAME")).join(test);
     fs::create_dir_all(&folder).unwrap();
     folder
 }

@@ -12,7 +12,7 @@ use lib.Pow.{pow-pos, high, ones-lt, ones-split}
 use Rattle.definitions.specs.Literal.{indexOf}
 use Rattle.definitions.specs.Meaning.{assigned, isKnown}
 use Rattle.definitions.specs.Evaluate.{within}
-use Rattle.columns.proofs.Every.{both-left, every-less}
+use Rattle.term_checks.proofs.Every.{both-left, every-less}
 use Rattle.assigned.specs.Parts.{knownWord, hasBy, codesCovered}
 
 -- bit k of a word

@@ -8,7 +8,7 @@ use Rattle.definitions.specs.Limits.{wordLimit}
 use Rattle.definitions.specs.Literal.{indexOf}
 use Rattle.definitions.specs.Meaning.{onesOf, isKnown}
 use Rattle.definitions.specs.Evaluate.{within, knownOnes}
-use Rattle.columns.specs.Parts.{every}
+use Rattle.term_checks.specs.Parts.{every}
 
 -- "Words after the first 16,777,216 are not looked at."
 unfoldable pub looked : List ℕ → List ℕ

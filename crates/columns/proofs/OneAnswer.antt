@@ -7,9 +7,6 @@ use Rattle.columns.proofs.term_room.Reads as term-room
 use Rattle.columns.proofs.in_column.Reads as in-column
 use Rattle.columns.proofs.terms_of.Reads as terms-of
 use Rattle.columns.proofs.first_of.Reads as first-of
-use Rattle.columns.proofs.indexed_of.Reads as indexed-of
-use Rattle.columns.proofs.add_size.Reads as add-size
-use Rattle.columns.proofs.sizes_of.Reads as sizes-of
 
 pub lesser-one : (κs : _) (a : _) (r r' : _) (s s' : _) → lesser.Post κs a r s → lesser.Post κs a r' s' → r ≡ r'
 lesser-one κs a r r' s s' p q = p ∙ sym q
@@ -28,12 +25,3 @@ terms-of-one κs a r r' s s' p q = p ∙ sym q
 
 pub first-of-one : (κs : _) (a : _) (r r' : _) (s s' : _) → first-of.Post κs a r s → first-of.Post κs a r' s' → r ≡ r'
 first-of-one κs a r r' s s' p q = p ∙ sym q
-
-pub indexed-of-one : (κs : _) (a : _) (r r' : _) (s s' : _) → indexed-of.Post κs a r s → indexed-of.Post κs a r' s' → r ≡ r'
-indexed-of-one κs a r r' s s' p q = p ∙ sym q
-
-pub add-size-one : (κs : _) (a : _) (r r' : _) (s s' : _) → add-size.Post κs a r s → add-size.Post κs a r' s' → r ≡ r'
-add-size-one κs a r r' s s' p q = p ∙ sym q
-
-pub sizes-of-one : (κs : _) (a : _) (r r' : _) (s s' : _) → sizes-of.Post κs a r s → sizes-of.Post κs a r' s' → r ≡ r'
-sizes-of-one κs a r r' s s' p q = p ∙ sym q

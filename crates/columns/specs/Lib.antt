@@ -1,4 +1,2 @@
-pub mod Sizes
-pub mod Parts
 pub mod Kinds
 pub mod Entries

@@ -32,7 +32,7 @@ use Rattle.definitions.proofs.Readback.{GoodTerm}
 -- ---- tests that were passed
 
 -- what was accepted behind a test passed it
-passed : {A : Type 0} (b : Bool) (c : Checked A) (n : ℕ) (y : A) → cond b c (refuse n) ≡ accept y → (b ≡ true) × (c ≡ accept y)
+pub passed : {A : Type 0} (b : Bool) (c : Checked A) (n : ℕ) (y : A) → cond b c (refuse n) ≡ accept y → (b ≡ true) × (c ≡ accept y)
 passed true c n y e = (refl, e)
 passed false c n y e = never cc
 

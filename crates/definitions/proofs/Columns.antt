@@ -82,6 +82,16 @@ module _ {A B : Type 0} where
   unfolding joined
   joined-snoc f xs a = joined-append f xs (a ∷ []) ∙ ap (λ (r : List B). joined f xs ++ r) (append-nil (f a))
 
+-- a column that holds f of each: as long as it was, and one more
+module _ {A B : Type 0} (f : A → B) (pre : List A) (l₀ l : List B) (e : l ≡ over (map f pre) l₀) where
+  pub column-length : length pre ≤ length l₀ → length l ≡ length l₀
+  column-length h = ap length e ∙ over-length (map f pre) l₀ (omega (arith, length-map pre f))
+
+  pub column-more : (n : ℕ) (a : A) → n ≡ length pre → n < length l₀ → set l n (f a) ≡ over (map f (pre ++ (a ∷ []))) l₀
+  column-more n a q h =
+      ap (λ (x : List B). set x n (f a)) e ∙ over-set (map f pre) l₀ n (f a) (q ∙ sym (length-map pre f)) h
+      ∙ ap (λ (x : List B). over x l₀) (sym (map-snoc f pre a))
+
 pub firsts-length : (ls : List Line) (m : ℕ) → length (firstsFrom m ls) ≡ length ls
 unfolding firstsFrom
 firsts-length [] m = refl
@@ -119,12 +129,12 @@ pub filled-lengths : (ls : List Line) (o : Table) → length ls ≤ rowRoom o �
 unfolding filled
 filled-lengths ls o h g =
     record {
-      kinds = over-length (map kindIn ls) (o .kinds) (omega (arith, length-map ls kindIn));
+      kinds = column-length kindIn ls (o .kinds) _ refl (omega arith);
       firsts = over-length (firstsFrom 0 ls) (o .firsts) (omega (arith, firsts-length ls 0));
-      counts = over-length (map countIn ls) (o .counts) (omega (arith, length-map ls countIn));
-      bounds = over-length (map boundIn ls) (o .bounds) (omega (arith, length-map ls boundIn));
-      weights = over-length (map weightOf (allTerms ls)) (o .weights) (omega (arith, length-map (allTerms ls) weightOf));
-      literals = over-length (map literalOf (allTerms ls)) (o .literals) (omega (arith, length-map (allTerms ls) literalOf));
+      counts = column-length countIn ls (o .counts) _ refl (omega arith);
+      bounds = column-length boundIn ls (o .bounds) _ refl (omega arith);
+      weights = column-length weightOf (allTerms ls) (o .weights) _ refl (omega arith);
+      literals = column-length literalOf (allTerms ls) (o .literals) _ refl (omega arith);
     }
 
 table-eq : {k k′ f f′ n n′ l l′ : List ℕ} {b b′ w w′ : List ℤ} → k ≡ k′ → f ≡ f′ → n ≡ n′ → b ≡ b′ → w ≡ w′ → l ≡ l′
@@ -134,10 +144,6 @@ table-eq p q r s t u = λ x. table (p x) (q x) (r x) (s x) (t x) (u x)
 -- a line more, behind ls
 module _ (ls : List Line) (y : Line) (o : Table) (n m : ℕ) (rows : n ≡ length ls) (terms : m ≡ length (allTerms ls))
     (room : n < rowRoom o) where
-  column-more : {A : Type 0} (f : Line → A) (l : List A) → n < length l → set (over (map f ls) l) n (f y) ≡ over (map f (ls ++ (y ∷ []))) l
-  column-more {A} f l h =
-      over-set (map f ls) l n (f y) (rows ∙ sym (length-map ls f)) h ∙ ap (λ (r : List A). over r l) (sym (map-snoc f ls y))
-
   firsts-more : set (over (firstsFrom 0 ls) (o .firsts)) n (firstIn m y) ≡ over (firstsFrom 0 (ls ++ (y ∷ []))) (o .firsts)
   firsts-more =
       over-set (firstsFrom 0 ls) (o .firsts) n (firstIn m y) (rows ∙ sym (firsts-length ls 0)) (omega arith)
@@ -159,10 +165,10 @@ module _ (ls : List Line) (y : Line) (o : Table) (n m : ℕ) (rows : n ≡ lengt
   unfolding filled
   filled-more t w l e p q =
       table-eq
-      (ap (λ (x : Table). set (x .kinds) n (kindIn y)) e ∙ column-more kindIn (o .kinds) (omega arith))
+      (column-more kindIn ls (o .kinds) (t .kinds) (ap (λ (x : Table). x .kinds) e) n y rows (omega arith))
       (ap (λ (x : Table). set (x .firsts) n (firstIn m y)) e ∙ firsts-more)
-      (ap (λ (x : Table). set (x .counts) n (countIn y)) e ∙ column-more countIn (o .counts) (omega arith))
-      (ap (λ (x : Table). set (x .bounds) n (boundIn y)) e ∙ column-more boundIn (o .bounds) (omega arith))
+      (column-more countIn ls (o .counts) (t .counts) (ap (λ (x : Table). x .counts) e) n y rows (omega arith))
+      (column-more boundIn ls (o .bounds) (t .bounds) (ap (λ (x : Table). x .bounds) e) n y rows (omega arith))
       (p ∙ ap (λ (x : Table). take m (x .weights) ++ over (map weightOf (termsOf y)) (drop m (x .weights))) e
       ∙ terms-more weightOf (o .weights))
       (q ∙ ap (λ (x : Table). take m (x .literals) ++ over (map literalOf (termsOf y)) (drop m (x .literals))) e
@@ -194,6 +200,14 @@ module _ {B : Type 0} where
 
   pub begins-length : (pre bs : List B) → Begins pre bs → length pre ≤ length bs
   begins-length pre bs p = omega (arith, ap length (p .is), length-append pre (p .rest))
+
+pub begins-terms : (pre ls : List Line) → Begins pre ls → length (allTerms pre) ≤ length (allTerms ls)
+begins-terms pre ls p =
+    omega (
+      arith,
+      ap (λ (x : List Line). length (allTerms x)) (p .is) ∙ ap length (joined-append termsOf pre (p .rest))
+          ∙ length-append (allTerms pre) (allTerms (p .rest)),
+    )
 
 module _ {A B : Type 0} (f : A → Checked B) (es : List A) where
   -- i rows passed, which gave pre

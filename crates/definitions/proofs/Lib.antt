@@ -3,12 +3,10 @@
 pub mod ThereAndBack
 pub mod WholeFile
 pub mod SameAnswers
-pub mod OpbDocument
-pub mod WrittenDocument
-pub mod Needed
 pub mod TableP
 -- ---- tests, whole numbers, lists, answers
 pub mod Truths
+pub mod Room
 pub mod Whole
 pub mod Each
 pub mod Parts
@@ -22,16 +20,11 @@ pub mod Statements
 pub mod FileAnswers
 -- ---- tables, and texts in outputs
 pub mod Columns
-pub mod Tables
-pub mod ReadRows
-pub mod Puts
 -- ---- meaning
 pub mod Meanings
 pub mod Normals
 pub mod Ones
 -- ---- refusals
-pub mod Refusals
-pub mod ZeroAccepts
 -- ---- for ThereAndBack: what is written is read
 pub mod KnownTexts
 pub mod Readback
@@ -46,18 +39,7 @@ pub mod MeansBack
 pub mod PieceByPiece
 pub mod Stops
 pub mod Steps
+
 -- ---- for OpbDocument
-pub mod DocumentTerms
-pub mod DocumentStatements
-pub mod DocumentSample
 -- ---- for WrittenDocument
-pub mod DocumentLines
-pub mod DocumentWrittenTerms
-pub mod DocumentWrittenStatements
-pub mod DocumentWrittenFile
-pub mod DocumentWrittenGoals
-pub mod DocumentWrittenLines
-pub mod WrittenSample
 -- ---- for Needed
-pub mod OneConstraint
-pub mod OutsideDocument

@@ -26,12 +26,9 @@ pub mod Values
 pub mod Output
 pub mod Write
 -- ---- the public OPB document, 01's examples, the listing program
-pub mod Document
 pub mod TableP
 pub mod House
 -- ---- words of the theorems
 pub mod Back
 pub mod Pieces
-pub mod DocumentRead
-pub mod DocumentWritten
 pub mod Accepts

@@ -6,17 +6,13 @@ use mathlib.Core.Bool.{Bool, true, false}
 use mathlib.Core.List.{List, [], _∷_}
 use lib.IntN.{ℤ, pos, negsuc}
 use Rattle.definitions.specs.Limits.{least}
-use Rattle.definitions.specs.Bytes as B
+use Rattle.definitions.specs.Bytes.{bytes}
 use Rattle.definitions.specs.Refusal.{refusal}
 use Rattle.definitions.specs.Row.{term, atLeast, atMost, rowOf, Line, row}
 use Rattle.definitions.specs.Table.{Table, table, Outcome, refused, accepted}
 use Rattle.definitions.specs.declared.Mode.{Mode}
 use Rattle.definitions.specs.File.{firstAt, reading}
 use Rattle.definitions.specs.Write.{writing}
-
--- a text's bytes, as Bytes says them
-abbrev pub bytes : S.String → List ℕ
-bytes s = B.bytes s
 
 abbrev pub modeFrom : ℕ → Bool → Mode
 modeFrom first noNegated = record { first = first; plain = noNegated }

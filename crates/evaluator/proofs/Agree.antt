@@ -10,7 +10,7 @@ use Rattle.definitions.specs.Row.{Term, Row}
 use Rattle.definitions.specs.Table.{Table, accepted}
 use Rattle.definitions.specs.Meaning.{Assignment, isTrue, sumOf, holdsBy, holds, valueOf, assigned, isKnown}
 use Rattle.definitions.specs.Evaluate.{constraint, goal, covered, evaluatingKnown}
-use Rattle.columns.proofs.Every.{both-left, both-right}
+use Rattle.term_checks.proofs.Every.{both-left, both-right}
 use Rattle.assigned.specs.Parts.{looked}
 use Rattle.evaluator.proofs.Meant.{Holds, ConstraintMeant, ObjectiveMeant, known-constraint, known-objective}
 

@@ -20,7 +20,7 @@ use Rattle.definitions.specs.Table.{Table, table, rowRoom, accepted, lineIn, an
 use Rattle.definitions.specs.Meaning.{Assignment, sumOf, holds, valueOf, assigned, onesOf, isKnown}
 use Rattle.definitions.specs.Evaluate.{Evaluated as Found, constraint, goal, covered, foundBy, found, foundIn, onPlace}
 use Rattle.definitions.specs.Evaluate.{evaluatingBy, within, evaluating, knownOnes, evaluatingKnown}
-use Rattle.columns.proofs.Terms.{entryAt, entries-from}
+use Rattle.columns.proofs.Entries.{entryAt, entries-from}
 use Rattle.verdicts.specs.declared.Evaluated.the-variants.{Constraint, Objective}
 use Rattle.assigned.specs.Parts.{looked}
 use Rattle.rows.proofs.Answers.{row-missing}

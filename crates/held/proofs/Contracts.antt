@@ -7,10 +7,7 @@ use contract.Monad.{fact}
 use borrow.Fn.World.{World, Pr}
 use Rattle.held.proofs.new as new
 use Rattle.held.proofs.at as at
-use Rattle.held.proofs.step as step
 use Rattle.held.proofs.moved as moved
-use Rattle.held.proofs.next as next
-use Rattle.held.proofs.fill as fill
 
 -- an assertion that is one plain fact, the same at every model of the logic
 pub record States (P : (w : World) → Pr w) : Type 2 where
@@ -26,18 +23,6 @@ abbrev pub at-states : (κs : _) (a : _) (r : _) (s : _) → States
     (λ w. at.clauses (w .𝓤) (w .H) (w .𝓖 .A) (w .𝓜 .mem) (w .𝓡 .run) κs a .ensures tt r s)
 at-states κs a r s = record { stated = _; is = λ w. refl }
 
-abbrev pub step-states : (κs : _) (a : _) (r : _) (s : _) → States
-    (λ w. step.clauses (w .𝓤) (w .H) (w .𝓖 .A) (w .𝓜 .mem) (w .𝓡 .run) κs a .ensures tt r s)
-step-states κs a r s = record { stated = _; is = λ w. refl }
-
 abbrev pub moved-states : (κs : _) (a : _) (r : _) (s : _) → States
     (λ w. moved.clauses (w .𝓤) (w .H) (w .𝓖 .A) (w .𝓜 .mem) (w .𝓡 .run) κs a .ensures tt r s)
 moved-states κs a r s = record { stated = _; is = λ w. refl }
-
-abbrev pub next-states : (κs : _) (a : _) (r : _) (s : _) → States
-    (λ w. next.clauses (w .𝓤) (w .H) (w .𝓖 .A) (w .𝓜 .mem) (w .𝓡 .run) κs a .ensures tt r s)
-next-states κs a r s = record { stated = _; is = λ w. refl }
-
-abbrev pub fill-states : (κs : _) (a : _) (r : _) (s : _) → States
-    (λ w. fill.clauses (w .𝓤) (w .H) (w .𝓖 .A) (w .𝓜 .mem) (w .𝓡 .run) κs a .ensures tt r s)
-fill-states κs a r s = record { stated = _; is = λ w. refl }

@@ -14,8 +14,8 @@ use Rattle.definitions.specs.Row.{Term, Line, comment, row, termsOf}
 use Rattle.definitions.specs.Table.{Table, rowRoom, Outcome, refused, accepted, allTerms, entries, onRow, rowByRow}
 use Rattle.definitions.specs.Write.{fittedText, outputAfter}
 use Rattle.definitions.specs.House.{termFields, houseLine, listedEntry, listingTable}
-use Rattle.definitions.proofs.Puts.{Puts, rest-room, puts-then, puts-as, needed-add}
-use Rattle.columns.proofs.Terms.{entries-count}
+use Rattle.laws.proofs.Puts.{Puts, rest-room, puts-then, puts-as, needed-add}
+use Rattle.columns.proofs.Entries.{entries-count}
 use Rattle.definitions.specs.declared.Refusal.{Refusal}
 use Rattle.definitions.specs.declared.Length.the-variants.{Refused, Is}
 use Rattle.definitions.proofs.Truths.{never}

@@ -9,9 +9,9 @@ use Rattle.definitions.specs.Refusal.{accept}
 use Rattle.definitions.specs.Row.{Line}
 use Rattle.definitions.specs.Table.{Table, accepted, entries}
 use Rattle.definitions.specs.House.{houseLine, listedEntry}
-use Rattle.definitions.proofs.Puts.{Puts, puts-none, puts-then, puts-length, puts-as, joined-last, joined-append}
-use Rattle.definitions.proofs.Puts.{RowsAt, Next, rows-none, rows-all, rows-more, rows-next}
-use Rattle.columns.proofs.Terms.{entryAt}
+use Rattle.laws.proofs.Puts.{Puts, puts-none, puts-then, puts-length, puts-as, joined-last, joined-append}
+use Rattle.laws.proofs.Puts.{RowsAt, Next, rows-none, rows-all, rows-more, rows-next}
+use Rattle.columns.proofs.Entries.{entryAt}
 use Rattle.house_measures.specs.Lines.{lineOn, linesOf}
 use Rattle.house_measures.proofs.RowsWalk.{by-columns, next-entry, no-entry}
 use Rattle.house.specs.Ready.{RowReady, RowsReady}

@@ -17,7 +17,7 @@ ghost use Rattle.definitions.specs.Refusal.{accept};
 ghost use Rattle.definitions.specs.Row.{Line, row, rowOf};
 ghost use Rattle.definitions.specs.Table.{table, accepted, termsOn};
 ghost use Rattle.definitions.specs.House.{houseLine};
-ghost use Rattle.definitions.proofs.Puts.{Puts};
+ghost use Rattle.laws.proofs.Puts.{Puts};
 ghost use Rattle.columns.specs.Kinds.{readKind};
 ghost use Rattle.house_lengths.specs.Words.{headText, commentLine, wordField};
 ghost use Rattle.house_measures.specs.Lines.{lineOn, linesOf};

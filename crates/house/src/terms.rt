@@ -10,7 +10,7 @@ ghost use Rattle.definitions.specs.Lists.{joined};
 ghost use Rattle.definitions.specs.Row.{term};
 ghost use Rattle.definitions.specs.Table.{termsOn};
 ghost use Rattle.definitions.specs.House.{field, termFields};
-ghost use Rattle.definitions.proofs.Puts.{Puts};
+ghost use Rattle.laws.proofs.Puts.{Puts};
 ghost use Rattle.house_lengths.specs.Words.{literalWords, termWords};
 ghost use Rattle.house.specs.Ready.{TermReady, TermsReady};
 

@@ -5,22 +5,16 @@ use mathlib.Core.Bool.{Bool, true, false, cond}
 use mathlib.Core.List.{List, _∷_, _++_}
 use Prim.Native.Nat.{ℕ, _+_}
 use native.Mathlib.Omega.{arith}
-use lib.Dec.{leb}
 use lib.IntN.{ℤ}
 use lib.ListN.{length, length-append}
-use Rattle.definitions.specs.Limits.{fileNumberLimit}
 use Rattle.definitions.specs.Refusal.{needed, refuse, accept}
 use Rattle.definitions.specs.Number.{decimal, integerText}
 use Rattle.definitions.specs.Literal.{indexOf, negated, fileNumber}
 use Rattle.definitions.specs.Row.{term}
 use Rattle.definitions.specs.Write.{numberText, literalText, isAccepted}
 use Rattle.definitions.specs.House.{field, termFields}
-use Rattle.definitions.proofs.Puts.{needed-add, needed-both}
+use Rattle.laws.proofs.Puts.{needed-add, needed-both}
 use Rattle.definitions.proofs.Truths.{never}
-use Rattle.literals.specs.declared.FileNumber.{FileNumber}
-use Rattle.literals.specs.declared.FileNumberRead.{FileNumberRead}
-use Rattle.literals.specs.declared.FileNumberRead.the-variants as file-number
-use Rattle.literals.specs.Said.{saidFileNumber}
 use Rattle.house_lengths.specs.declared.terms.TermLength.{TermLength}
 use Rattle.house_lengths.specs.declared.terms.TermLength.the-variants as term-length
 use Rattle.house_lengths.specs.Words.{literalWords, termWords}
@@ -43,20 +37,6 @@ module _ (w : ℤ) (b : Bool) (n : ℕ) where
 
   pub plain-words-length : b ≡ false → length (termWords w b n) ≡ length (integerText w) + length (decimal n) + 3
   plain-words-length e = omega (arith, words-length, ap (λ (x : Bool). length (literalWords x n)) e)
-
--- ---- the file number of a variable
-
-module _ (first v : ℕ) (r : FileNumberRead) (e : saidFileNumber r ≡ fileNumber first v) where
-  pub number-is : (n : FileNumber) → r ≡ file-number.Is n → (n .0 ≡ v + first) × (isAccepted (fileNumber first v) ≡ true)
-  unfolding fileNumber
-  number-is n q = (value (leb (v + first) fileNumberLimit) (sym (ap saidFileNumber q) ∙ e), ap isAccepted (sym e ∙ ap saidFileNumber q))
-    where
-      value : (b : Bool) → accept (n .0) ≡ cond b (accept (v + first)) (refuse 5) → n .0 ≡ v + first
-      value true p = cc
-      value false p = never (cc)
-
-  pub no-number : r ≡ file-number.OutOfRange → isAccepted (fileNumber first v) ≡ false
-  no-number q = ap isAccepted (sym e ∙ ap saidFileNumber q)
 
 pub not-both : {b : Bool} {A : Type 0} → b ≡ true → b ≡ false → A
 not-both p q = let z : _≡_ {A = Bool} true false = sym p ∙ q in never (cc)

@@ -15,10 +15,10 @@ use Rattle.definitions.specs.Table.{Table, table, termsOn, inColumn, indexed, s
 use Rattle.definitions.specs.declared.Entry.{Entry}
 use Rattle.definitions.specs.Write.{numbered}
 use Rattle.definitions.specs.House.{termFields, listedLine, listedEntry}
-use Rattle.definitions.proofs.Puts.{needed-add}
+use Rattle.laws.proofs.Puts.{needed-add}
 use Rattle.definitions.proofs.Truths.{never}
-use Rattle.columns.specs.Parts.{codesIndexed}
-use Rattle.columns.proofs.Terms.{terms-count, weightsAt, literalsAt, terms-at, weights-at-count, literals-at-count, indexed-on}
+use Rattle.term_checks.specs.Parts.{codesIndexed}
+use Rattle.term_checks.proofs.Terms.{terms-count, weightsAt, literalsAt, terms-at, weights-at-count, literals-at-count, indexed-on}
 use Rattle.house_measures.specs.declared.terms.TermsLength.{TermsLength}
 use Rattle.house_measures.specs.declared.terms.TermsLength.the-variants as terms-length
 use Rattle.house_measures.specs.declared.rows.Size.{Size}

@@ -10,9 +10,9 @@ use Rattle.definitions.specs.Row.{Term, Line, termsOf}
 use Rattle.definitions.specs.Table.{Table, rowRoom, Outcome, refused, accepted, allTerms, entries, andThen}
 use Rattle.definitions.specs.declared.Entry.{Entry}
 use Rattle.definitions.specs.House.{houseLine, listedLine, listedEntry}
-use Rattle.definitions.proofs.Puts.{joined-last, RowsAt, rows-none, rows-all, rows-refused, rows-more, drop-in-take}
+use Rattle.laws.proofs.Puts.{joined-last, RowsAt, rows-none, rows-all, rows-refused, rows-more, drop-in-take}
 use Rattle.definitions.proofs.Truths.{never}
-use Rattle.columns.proofs.Terms.{entryAt, entries-count, entries-from}
+use Rattle.columns.proofs.Entries.{entryAt, entries-count, entries-from}
 use Rattle.house_lengths.proofs.Fields.{needed-more, needed-more-yet}
 use Rattle.house_measures.specs.declared.rows.Size.{Size}
 use Rattle.house_measures.specs.Lines.{lineOn, linesOf}

@@ -13,7 +13,7 @@ use Rattle.definitions.specs.Table.{termsOn}
 use Rattle.definitions.specs.Write.{isAccepted, numbered}
 use Rattle.definitions.specs.House.{termFields}
 use Rattle.definitions.proofs.Truths.{never}
-use Rattle.columns.proofs.Terms.{terms-from, terms-end}
+use Rattle.term_checks.proofs.Terms.{terms-from, terms-end}
 
 both : (x y : Bool) → x && y ≡ true → x ≡ true
 both true y e = refl

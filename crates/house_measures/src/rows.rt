@@ -43,7 +43,7 @@ fn measure_line(kind: u8, bound: i64, weights: &[i64], literals: &[u32], first: 
     requires { ⌜ (0 < kind) × (length (now weights) ≡ length (now literals)) ⌝ }
     ensures { λ r. ⌜ saidSize r ≡ sizeIn first (rowOn first kind bound (now (weights .entry)) (now (literals .entry))) ⌝ }
 {
-    if !columns::indexed_of(literals) {
+    if !term_checks::indexed_of(literals) {
         return RowSize::Refused(NO_ROW);
     }
     match terms_length(weights, literals, first) {

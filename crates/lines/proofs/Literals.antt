@@ -10,7 +10,7 @@ use lib.Seq.{set-set, set-comm}
 use Rattle.definitions.specs.Number.{decimal}
 use Rattle.definitions.specs.Output.{putAt}
 use Rattle.definitions.specs.Refusal.{refuse, accept}
-use Rattle.definitions.proofs.Puts.{Puts, placed, put-done, put-full, put-at-full, put-in-full}
+use Rattle.laws.proofs.Puts.{Puts, placed, put-done, put-full, put-at-full, put-in-full}
 use Rattle.definitions.proofs.Truths.{never}
 use Rattle.outputs.specs.Print.{put, Prints}
 use Rattle.outputs.specs.declared.Put.{Put}

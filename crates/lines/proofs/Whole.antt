@@ -17,7 +17,7 @@ use Rattle.definitions.specs.Write.{closed, isZero, remarkText, offsetWords, of
 use Rattle.definitions.specs.Write.{weighs, numbered, bounded}
 use Rattle.definitions.specs.Back.{isGoal}
 use Rattle.definitions.specs.declared.Mode.{Mode}
-use Rattle.definitions.proofs.Puts.{Puts, joined-append, puts-as}
+use Rattle.laws.proofs.Puts.{Puts, joined-append, puts-as}
 use Rattle.puts.specs.Each.{LandsEach}
 use Rattle.puts.proofs.Each.{allOf, each-puts}
 use Rattle.printed.specs.declared.kinds.Shape.{Shape}

@@ -19,7 +19,7 @@ use Rattle.definitions.specs.House.{houseLine, refusedLine, listing}
 use Rattle.definitions.specs.declared.Options.{Options}
 use Rattle.definitions.proofs.Walks.{At, at-start, at-stop, at-bad, at-item}
 use Rattle.definitions.proofs.Statements.{LineTaken, statement-moves, statement-taken}
-use Rattle.definitions.proofs.Puts.{needed-add, joined-last, count-length-most}
+use Rattle.laws.proofs.Puts.{needed-add, joined-last, count-length-most}
 use Rattle.definitions.proofs.Truths.{never}
 use Rattle.definitions.specs.declared.Entry.{Entry}
 use Rattle.columns.specs.Kinds.{termsOfKind}

@@ -16,7 +16,7 @@ use Rattle.definitions.specs.Text.{statement}
 use Rattle.definitions.specs.House.{houseLine}
 use Rattle.definitions.specs.declared.Entry.{Entry}
 use Rattle.definitions.specs.declared.Options.{Options}
-use Rattle.definitions.proofs.Puts.{needed-add}
+use Rattle.laws.proofs.Puts.{needed-add}
 use Rattle.columns.specs.Entries.{entryAlone}
 use Rattle.columns.specs.Kinds.{readKind}
 use Rattle.statements.specs.Met.{statementMet}

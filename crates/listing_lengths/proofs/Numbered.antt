@@ -13,7 +13,7 @@ use Rattle.definitions.specs.Text.{termStep}
 use Rattle.definitions.specs.House.{termFields}
 use Rattle.definitions.specs.declared.Options.{Options}
 use Rattle.definitions.proofs.Statements.{term-step-item}
-use Rattle.definitions.proofs.ReadRows.{weighted-good}
+use Rattle.laws.proofs.ReadRows.{weighted-good}
 use Rattle.house_lengths.specs.Lengths.{termLength}
 
 pub read-length : (o : Options) (s : List ℕ) (t : Term) (n : ℕ) → termStep o s ≡ item t n

@@ -14,7 +14,7 @@ use Rattle.definitions.specs.Text.{termStep}
 use Rattle.definitions.specs.House.{termFields}
 use Rattle.definitions.specs.declared.Options.{Options}
 use Rattle.definitions.proofs.Statements.{term-moves}
-use Rattle.definitions.proofs.Puts.{needed-add}
+use Rattle.laws.proofs.Puts.{needed-add}
 use Rattle.definitions.proofs.Truths.{never}
 use Rattle.sums.specs.Met.{metTerms}
 use Rattle.sums.proofs.MetTerms.{met-stop, met-bad, met-item}

@@ -21,8 +21,8 @@ use Rattle.definitions.specs.declared.Length.{Length}
 use Rattle.definitions.specs.File.{firstAt, file, reading}
 use Rattle.definitions.specs.Write.{fittedText, outputAfter}
 use Rattle.definitions.specs.House.{refusedLine, listing, listedEntry, listingTable}
-use Rattle.definitions.proofs.Tables.{filled-listed}
-use Rattle.definitions.proofs.ReadRows.{statements-good, good-indexed, good-numbered}
+use Rattle.laws.proofs.Tables.{filled-listed}
+use Rattle.laws.proofs.ReadRows.{statements-good, good-indexed, good-numbered}
 use Rattle.definitions.proofs.FileAnswers.{file-accepted}
 use Rattle.definitions.proofs.Columns.{fitted-accepted}
 use Rattle.definitions.proofs.Truths.{never}

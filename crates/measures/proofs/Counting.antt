@@ -13,7 +13,7 @@ use Rattle.definitions.specs.declared.Entry.{Entry}
 use Rattle.definitions.specs.Write.{Item, itemText, writtenIn}
 use Rattle.definitions.specs.Back.{linesBack, termsBack}
 use Rattle.definitions.specs.declared.Mode.{Mode}
-use Rattle.columns.proofs.Terms.{entryAt, entries-from, entries-end}
+use Rattle.columns.proofs.Entries.{entryAt, entries-from, entries-end}
 use Rattle.printed.specs.Rows.{onColumns}
 use Rattle.printed.proofs.OneEntry.{written-on}
 use Rattle.measures.specs.declared.rows.Extent.{Extent}

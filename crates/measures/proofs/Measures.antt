@@ -17,7 +17,7 @@ use Rattle.definitions.specs.Back.{linesBack}
 use Rattle.definitions.specs.declared.Mode.{Mode}
 use Rattle.definitions.specs.declared.Kind.{Kind}
 use Rattle.definitions.specs.declared.Kind.the-variants.{AtLeast as atLeast, AtMost as atMost, Equal as equal, Objective as objective}
-use Rattle.columns.proofs.Terms.{terms-count}
+use Rattle.term_checks.proofs.Terms.{terms-count}
 use Rattle.shown.specs.declared.terms.Style.{Style}
 use Rattle.measures.specs.declared.terms.Tally.{Tally}
 use Rattle.printed.specs.declared.kinds.Shape.{Shape}

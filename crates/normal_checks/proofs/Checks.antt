@@ -14,8 +14,8 @@ use Rattle.definitions.specs.Row.{Line, termsOf}
 use Rattle.definitions.specs.Table.{Table, table, rowRoom, refused, accepted, totalsOf, entries, allTerms, andThen}
 use Rattle.definitions.specs.declared.Entry.{Entry}
 use Rattle.definitions.specs.Normal.{normalLine, normalIn}
-use Rattle.columns.specs.Parts.{codesIndexed, weightSizes}
-use Rattle.columns.proofs.Terms.{entryAt, entries-from, entries-end}
+use Rattle.term_checks.specs.Parts.{codesIndexed, weightSizes}
+use Rattle.columns.proofs.Entries.{entryAt, entries-from, entries-end}
 use Rattle.columns.specs.Kinds.{readKind}
 use Rattle.columns.proofs.KindNumbers.{line-by-terms}
 use Rattle.shifts.specs.Shifts.{weightRises, shiftBy}

@@ -16,8 +16,10 @@ use Rattle.definitions.specs.Row.{Row, rowOf, Line, comment, row}
 use Rattle.definitions.specs.Table.{Table, table, termsAt, inColumn, sortOf, kindIn, countIn, andThen, rowIn, lineIn}
 use Rattle.definitions.specs.declared.Entry.{Entry}
 use Rattle.definitions.specs.Normal.{moved, totalBy, normalTerm, rise, normal, normalLine, normalIn}
-use Rattle.columns.specs.Parts.{codesIndexed, weightSizes}
-use Rattle.columns.proofs.Terms.{weightsAt, literalsAt, terms-at, weights-at-count, literals-at-count, terms-at-count, indexed-at, sizes-at}
+use Rattle.definitions.proofs.Accepted.{passed}
+use Rattle.term_checks.specs.Parts.{codesIndexed, weightSizes}
+use Rattle.term_checks.proofs.Terms.{weightsAt, literalsAt, terms-at, weights-at-count, literals-at-count, terms-at-count}
+use Rattle.term_checks.proofs.Terms.{indexed-at, sizes-at}
 use Rattle.columns.specs.Kinds.{readKind}
 use Rattle.columns.proofs.KindNumbers.{read-kind, unread-kind}
 use Rattle.shifts.specs.Shifts.{weightRises, shiftBy}
@@ -98,11 +100,6 @@ module _ (ws : List ℤ) (cs : List ℕ) (e : Entry) where
           by false d = refl
 
 -- ---- what an accepted entry has
-
--- what was accepted behind a test passed it
-passed : {A : Type 0} (b : Bool) (c : Checked A) (n : ℕ) (y : A) → cond b c (refuse n) ≡ accept y → (b ≡ true) × (c ≡ accept y)
-passed true c n y e = (refl, e)
-passed false c n y e = let z : _≡_ {A = ℕ} 0 1 = cc in absurd (omega arith)
 
 both : (d e : Bool) → d && e ≡ true → (d ≡ true) × (e ≡ true)
 both true e q = (refl, q)

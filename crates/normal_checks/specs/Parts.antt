@@ -12,7 +12,7 @@ use Rattle.definitions.specs.Table.{Table, table, Outcome, refused, accepted, t
 use Rattle.definitions.specs.declared.Entry.{Entry}
 use Rattle.definitions.specs.declared.Totals.{Totals}
 use Rattle.definitions.specs.Normal.{normalIn}
-use Rattle.columns.specs.Parts.{codesIndexed, weightSizes}
+use Rattle.term_checks.specs.Parts.{codesIndexed, weightSizes}
 use Rattle.columns.specs.Kinds.{readKind}
 use Rattle.shifts.specs.Shifts.{weightRises, shiftBy}
 

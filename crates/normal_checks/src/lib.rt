@@ -26,10 +26,10 @@ pub enum RowCheck {
 fn check_terms(kind: u8, bound: i64, weights: &[i64], literals: &[u32]) -> RowCheck
     ensures { λ r. ⌜ saidRow r ≡ termsChecked kind bound (now (weights .entry)) (now (literals .entry)) ⌝ }
 {
-    if !columns::indexed_of(literals) {
+    if !term_checks::indexed_of(literals) {
         return RowCheck::Refused(11);
     }
-    if columns::sizes_of(weights) > WEIGHT_LIMIT {
+    if term_checks::sizes_of(weights) > WEIGHT_LIMIT {
         return RowCheck::Refused(8);
     }
     if !fits::sum_fits(bound, shifts::shift_of(kinds::read_kind(kind), weights)) {

@@ -6,15 +6,15 @@ use native.Mathlib.Omega.{arith}
 use borrow.Author.Tests.{leb-true}
 use borrow.Rule.Slice.PartMut.{putMid}
 use lib.IntN.{ℤ, _+ℤ_}
-use lib.ListN.{length, take, drop, set, length-append, length-map, length-drop}
+use lib.ListN.{length, take, drop, set, length-map, length-drop}
 use Rattle.definitions.specs.Lists.{joined}
 use Rattle.definitions.specs.Refusal.{accept}
 use Rattle.definitions.specs.Row.{weightOf, literalOf, Line, termsOf}
 use Rattle.definitions.specs.Table.{Table, table, rowRoom, termRoom, Outcome, accepted, entries, termsOn, termsAt, allTerms, filled}
 use Rattle.definitions.specs.declared.Entry.{Entry}
 use Rattle.definitions.specs.Normal.{normalTerm, normal, normalIn}
-use Rattle.columns.proofs.Terms.{entryAt, entries-from, entries-end, weightsAt, literalsAt, terms-at, weights-at-count}
-use Rattle.columns.proofs.Terms.{literals-at-count, terms-at-count}
+use Rattle.columns.proofs.Entries.{entryAt, entries-from, entries-end}
+use Rattle.term_checks.proofs.Terms.{weightsAt, literalsAt, terms-at, weights-at-count, literals-at-count, terms-at-count}
 use Rattle.columns.specs.Kinds.{readKind}
 use Rattle.shifts.specs.Shifts.{weightRises, shiftBy}
 use Rattle.normal_checks.specs.Parts.{normalOf, normalRows}
@@ -22,8 +22,8 @@ use Rattle.normal_checks.proofs.Checks.{normal-of}
 use Rattle.normal_checks.proofs.Entries.{on, normal-bound, accepted-comment, ReadRow, accepted-row, kind-kept, count-kept}
 use Rattle.normaliser.specs.Fill.{TermsFilled, TermsReady, RowReady, LineFilled, RowFilled, Ready}
 use Rattle.normaliser.specs.declared.fill.Filled.{Filled}
-use Rattle.definitions.proofs.Columns.{joined-append, terms-snoc, rest-of, part-back, filled-none, Lengths, filled-lengths, filled-more}
-use Rattle.definitions.proofs.Columns.{Begins, begins-length, Passed, passed-none, passed-all, passed-more, Next, passed-next}
+use Rattle.definitions.proofs.Columns.{terms-snoc, rest-of, part-back, filled-none, Lengths, filled-lengths, filled-more}
+use Rattle.definitions.proofs.Columns.{begins-length, begins-terms, Passed, passed-none, passed-all, passed-more, Next, passed-next}
 use Rattle.definitions.proofs.Columns.{passed-begins}
 
 -- ---- one row
@@ -84,14 +84,6 @@ module _ (ws : List ℤ) (cs : List ℕ) (e : Entry) (w₀ : List ℤ) (l₀ : L
         })
 
 -- ---- rows one after the other
-
-begins-terms : (pre ls : List Line) → Begins pre ls → length (allTerms pre) ≤ length (allTerms ls)
-begins-terms pre ls p =
-    omega (
-      arith,
-      ap (λ (x : List Line). length (allTerms x)) (p .is) ∙ ap length (joined-append termsOf pre (p .rest))
-          ∙ length-append (allTerms pre) (allTerms (p .rest)),
-    )
 
 module _ (t o : Table) where
   -- i rows of t filled, with so many terms, into a table that was o

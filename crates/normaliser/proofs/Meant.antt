@@ -27,7 +27,7 @@ use Rattle.definitions.proofs.Meanings.{normal-holds, normal-value}
 use Rattle.normaliser.specs.Meant.{Meaning, meaningBy, goal, meaningOf, normalised}
 use Rattle.definitions.specs.declared.Counted.the-variants as answer
 use Rattle.definitions.proofs.Columns.{Fits, rows-both, rows-again, fitted-accepted}
-use Rattle.definitions.proofs.Tables.{Indexed, filled-back}
+use Rattle.laws.proofs.Tables.{Indexed, filled-back}
 use Rattle.definitions.proofs.Accepted.{rows-accepted}
 use Rattle.definitions.proofs.Normals.{terms-indexed, normal-weighs, normal-line-twice}
 use Rattle.normaliser.proofs.normalise.Reads as normalise

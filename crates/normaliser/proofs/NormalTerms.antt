@@ -18,8 +18,8 @@ use Rattle.definitions.specs.Literal.{opposite}
 use Rattle.definitions.specs.Row.{Term, term}
 use Rattle.definitions.specs.Table.{termsOn}
 use Rattle.definitions.specs.Normal.{normalBy}
-use Rattle.columns.specs.Parts.{weightSizes}
-use Rattle.columns.proofs.Terms.{terms-count, terms-to}
+use Rattle.term_checks.specs.Parts.{weightSizes}
+use Rattle.term_checks.proofs.Terms.{terms-count, terms-to}
 use Rattle.definitions.proofs.Columns.{over-length, over-set, map-snoc}
 
 -- ---- one term

@@ -9,7 +9,7 @@ use Rattle.definitions.specs.Limits.{weightLimit}
 use Rattle.definitions.specs.Refusal.{Checked, accept}
 use Rattle.definitions.specs.Row.{Term, term, weightOf, literalOf, Line, termsOf}
 use Rattle.definitions.specs.Table.{Table, rowRoom, termRoom, accepted, firstIn, boundIn, allTerms}
-use Rattle.columns.specs.Parts.{weightSizes}
+use Rattle.term_checks.specs.Parts.{weightSizes}
 use Rattle.normal_checks.specs.Parts.{normalRows}
 use Rattle.normaliser.specs.declared.fill.NormalTerm.{NormalTerm}
 use Rattle.normaliser.specs.declared.fill.Filled.{Filled}

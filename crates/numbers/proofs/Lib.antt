@@ -1,4 +1,3 @@
-pub mod Room
 pub mod Signed
 pub mod Walk
 pub mod OneAnswer

@@ -5,7 +5,7 @@ use mathlib.Core.List.{List}
 use Rattle.definitions.specs.Table.{Outcome, refused, accepted}
 use Rattle.definitions.specs.Accepts.{numberOf, Tells}
 use Rattle.definitions.specs.Values.{valuing, newLength}
-use Rattle.definitions.proofs.ZeroAccepts.{valuing-tells}
+use Rattle.laws.proofs.ZeroAccepts.{valuing-tells}
 use Rattle.opb_assignments.specs.Answers.{lengthAnswer}
 use Rattle.opb_assignments.specs.Calls.{ReadsBlock}
 use Rattle.opb_assignments.specs.declared.OpbLength.{OpbLength}

@@ -5,7 +5,7 @@ use mathlib.Core.List.{List}
 use Rattle.definitions.specs.Table.{Table, Outcome, refused, accepted}
 use Rattle.definitions.specs.Accepts.{numberOf, Tells}
 use Rattle.definitions.specs.Evaluate.{Evaluated, constraint, goal, evaluating, evaluatingKnown, judging}
-use Rattle.definitions.proofs.ZeroAccepts.{evaluating-tells, evaluating-known-tells, judging-tells}
+use Rattle.laws.proofs.ZeroAccepts.{evaluating-tells, evaluating-known-tells, judging-tells}
 use Rattle.opb_rows.specs.Answers.{valueAnswer}
 use Rattle.opb_rows.specs.Calls.{evaluateAnswer, evaluateKnownAnswer, judgeAnswer}
 

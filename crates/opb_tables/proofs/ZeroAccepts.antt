@@ -7,7 +7,7 @@ use Rattle.definitions.specs.Table.{Table, Outcome, refused, accepted, counted}
 use Rattle.definitions.specs.Accepts.{numberOf, Tells}
 use Rattle.definitions.specs.File.{firstAt, file, reading}
 use Rattle.definitions.specs.Normal.{normalising}
-use Rattle.definitions.proofs.ZeroAccepts.{file-tells, reading-tells, normalising-tells}
+use Rattle.laws.proofs.ZeroAccepts.{file-tells, reading-tells, normalising-tells}
 use Rattle.table_answers.specs.Answers.{tableAnswer}
 use Rattle.opb_tables.specs.Calls.{countAnswer, ReadsFile, NormalisesTable}
 use Rattle.table_answers.specs.declared.OpbTable.{OpbTable}

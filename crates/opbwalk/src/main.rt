@@ -1,6 +1,6 @@
 // The listing program of 01, "Examples on each side", with a file that is walked: an OPB file on standard input, its
 // house lines on standard output, the same as opblist's. It keeps no table: one walk of steps checks and counts
-// (`walker::count_steps`), a second prints each statement's line as it is met. What cannot be read or printed is said
+// (`tallies::count_steps`), a second prints each statement's line as it is met. What cannot be read or printed is said
 // on standard error.
 use definitions::Counted;
 use definitions::Entry;
@@ -153,7 +153,7 @@ fn list(file: &[u8]) {
 // "9, then 10, once the whole file has read well"
 fn show(file: &[u8]) {
     let options = Options { first: 1 };
-    match walker::count_steps(file, options) {
+    match tallies::count_steps(file, options) {
         Counted::Refused(refusal) => refuse(refusal),
         Counted::Table(found) => {
             if found.rows > ROWS {

@@ -1,11 +1,4 @@
-pub mod Lanes
-pub mod LaneValues
-pub mod DigitLanes
-pub mod Gaps
-pub mod Leading
-pub mod PlainLanes
 pub mod PlainTests
-pub mod PlainParts
 pub mod PlainAnswers
 pub mod PlainTerms
 pub mod OneAnswer

@@ -4,19 +4,18 @@ use mathlib.Core.Path.{_≡_, refl, sym, ap, _∙_}
 use mathlib.Core.Bool.{Bool, true, false, _&&_}
 use mathlib.Core.List.{List}
 use native.Mathlib.Omega.{arith}
-use borrow.Author.Tests.{le-leb, lt-leb, lt-ltb, eq-eqb}
-use lib.Dec.{eqb, ltb}
-use lib.ListN.{length, take, drop}
-use lib.Seq.{getD-drop}
-use Rattle.definitions.specs.Bytes.{space, letterX}
+use borrow.Author.Tests.{le-leb, lt-leb, lt-ltb, le-ltb}
+use lib.Dec.{ltb}
+use lib.ListN.{length, take, drop, length-drop}
+use Rattle.definitions.specs.Bytes.{space}
 use Rattle.definitions.specs.declared.Options.{Options}
 use Rattle.definitions.proofs.Parts.{part-is}
-use Rattle.plain.specs.Lanes.{laneValue}
-use Rattle.plain.specs.Plain.{plain, other, byteAt, bytesOf, isPart, sign, isWeight, letters, isLiteral, behind, termBytes}
-use Rattle.plain.specs.Plain.{termOf, isPlain, plainAt}
-use Rattle.plain.specs.Parts.{PartIs, WeightIs, LiteralIs, between}
+use Rattle.definitions.proofs.Truths.{both}
+use Rattle.plain_parts.specs.Parts.{byteAt, sign, isWeight, isLiteral, nothing, weightAt, isNumbered, literalAt}
+use Rattle.plain_parts.proofs.PartTests.{part-says, literal-says}
+use Rattle.plain_parts.proofs.PartAnswers.{WeightHere, no-weight-here, LiteralHere, no-literal-here}
+use Rattle.plain.specs.Plain.{plain, other, behind, termBytes, termOf, isPlain, plainAt}
 use Rattle.plain.specs.declared.PlainTerm.{PlainTerm}
-use Rattle.plain.proofs.LaneValues.{lane-zero}
 
 not-plain : (o : Options) (s : List ℕ) → isPlain o s ≡ false → other ≡ plainAt o s
 unfolding plainAt
@@ -26,87 +25,73 @@ pub too-short : (o : Options) (s : List ℕ) → length s < 17 → other ≡ pla
 unfolding isPlain
 too-short o s h = not-plain o s (rw (lt-leb 17 (length s) h))
 
+-- four tests, the last of them third
+third : (a b c d : Bool) → a && (b && (c && d)) ≡ a && ((b && d) && c)
+third true true true true = refl
+third true true true false = refl
+third true true false true = refl
+third true true false false = refl
+third true false c d = refl
+third false b c d = refl
+
+no-third : (a c : Bool) → a && (false && c) ≡ false
+no-third true c = refl
+no-third false c = refl
+
 module _ (o : Options) (s : List ℕ) (long : 17 ≤ length s) where
   pub first-above : 1 < o .first → other ≡ plainAt o s
   unfolding isPlain
   first-above h = not-plain o s (rw (le-leb 17 (length s) long, lt-leb (o .first) 1 h))
 
   module _ (first : o .first ≤ 1) where
-    parts-tested : isPlain o s ≡ isWeight s && (isLiteral (behind s) && (ltb space (byteAt s (termBytes s)) && ltb 0 (termOf s .number)))
+    parts-tested : isPlain o s ≡ isWeight s && (isNumbered (behind s) && ltb space (byteAt s (termBytes s)))
     unfolding isPlain
-    parts-tested = rw (le-leb 17 (length s) long, le-leb (o .first) 1 first)
+    parts-tested =
+        rw (le-leb 17 (length s) long, le-leb (o .first) 1 first)
+        (third (isWeight s) (isLiteral (behind s)) (ltb space (byteAt s (termBytes s))) (ltb 0 (termOf s .number)))
 
-    pub no-weight : isWeight s ≡ false → other ≡ plainAt o s
-    no-weight e = not-plain o s (parts-tested ∙ rw e)
+    pub no-weight : nothing ≡ weightAt s → other ≡ plainAt o s
+    no-weight e = not-plain o s (parts-tested ∙ rw (no-weight-here s (omega arith) e))
 
-    pub no-literal : isLiteral (behind s) ≡ false → other ≡ plainAt o s
-    no-literal e = not-plain o s (parts-tested ∙ rw e (by (isWeight s)))
-      where
-        by : (t : Bool) → t && false ≡ false
-        by true = refl
-        by false = refl
+-- ---- the weight has been read
+module _ (s : List ℕ) {negative : Bool} {size gap : ℕ} (weight : WeightHere s negative size gap) where
+  pub gap-short : gap ≤ 7
+  gap-short = omega (arith, part-says (sign s) s (weight .text) .short, weight .bytes)
 
--- ---- the parts have been read
-
-part-tested : (k : ℕ) (s : List ℕ) {digits taken : ℕ} → PartIs k s digits taken → isPart k s ≡ eqb (byteAt s taken) space
-unfolding isPart
-part-tested k s {digits} {taken} p =
-    let e : bytesOf k s ≡ taken = sym (p .bytes) in
-    rw (e, lt-ltb k taken (p .some), le-leb taken 7 (p .short))
-
-literal-tested : (s : List ℕ) {negated : Bool} {variable taken : ℕ} → LiteralIs s negated variable taken
-    → isLiteral s ≡ eqb (byteAt s taken) space
-unfolding isLiteral
-literal-tested s l = rw (eq-eqb (byteAt s (letters s - 1)) letterX (l .letter)) (part-tested (letters s) s (l .part))
-
-abbrev termWith : Bool → ℕ → Bool → ℕ → PlainTerm
-termWith negative size negated number = record { negative = negative; size = size; negated = negated; number = number }
-
--- four tests, three of them at once
-regroup : (a b c d : Bool) → a && (b && (c && d)) ≡ (a && (b && c)) && d
-regroup true true c d = refl
-regroup true false c d = refl
-regroup false b c d = refl
-
-module _ (s : List ℕ) {negative : Bool} {digits gap : ℕ} (weight : WeightIs s negative digits gap) where
   behind-is : drop (gap + 1) s ≡ behind s
   unfolding behind
-  behind-is = rw (weight .part .bytes)
+  behind-is = rw (weight .bytes)
 
   pub literal-part : take (length s - (gap + 1)) (drop (gap + 1) s) ≡ behind s
   literal-part = part-is s (gap + 1) ∙ behind-is
 
-  module _ {negated : Bool} {variable long : ℕ} (lit : LiteralIs (behind s) negated variable long) where
-    bytes-are : termBytes s ≡ gap + long + 2
-    unfolding termBytes
-    bytes-are = rw (weight .part .bytes, lit .part .bytes)
+  module _ (o : Options) (room : 17 ≤ length s) (first : o .first ≤ 1) where
+    pub no-literal : nothing ≡ literalAt (behind s) → other ≡ plainAt o s
+    no-literal e =
+        let l : length (behind s) ≡ length s - (gap + 1) = ap length (sym behind-is) ∙ length-drop (gap + 1) s in
+        let n = no-literal-here (behind s) (omega (arith, gap-short)) e in
+        not-plain o s (parts-tested o s room first ∙ rw n (no-third (isWeight s) (ltb space (byteAt s (termBytes s)))))
 
-    literal-spaced : isLiteral (behind s) ≡ eqb (byteAt s (gap + long + 2 - 1)) space
-    literal-spaced =
-        let q : gap + 1 + long ≡ gap + long + 2 - 1 = omega arith in
-        let b : byteAt (behind s) long ≡ byteAt s (gap + long + 2 - 1) =
-        ap (λ (t : List ℕ). byteAt t long) (sym behind-is) ∙ getD-drop (gap + 1) s long 0 ∙ ap (byteAt s) q in
-        literal-tested (behind s) lit ∙ ap (λ (x : ℕ). eqb x space) b
+    -- ---- and the literal
+    module _ {negated : Bool} {number long : ℕ} (lit : LiteralHere (behind s) negated number long) where
+      pub long-short : long ≤ 7
+      long-short =
+          let l = both (isLiteral (behind s)) _ (lit .text) .0 in
+          omega (arith, literal-says (behind s) l .part .short, lit .bytes)
 
-    module _ (o : Options) (room : 17 ≤ length s) (first : o .first ≤ 1) where
-      tested : isPlain o s ≡ between s gap (gap + long + 2) && ltb 0 (laneValue variable)
-      tested =
-          parts-tested o s room first
-          ∙ rw (part-tested (sign s) s (weight .part), literal-spaced, bytes-are, ← lit .part .number)
-          (regroup (eqb (byteAt s gap) space) (eqb (byteAt s (gap + long + 2 - 1)) space)
-          (ltb space (byteAt s (gap + long + 2))) (ltb 0 (laneValue variable)))
+      bytes-are : termBytes s ≡ gap + long + 2
+      unfolding termBytes
+      bytes-are = rw (weight .bytes, lit .bytes)
 
-      pub not-spaced : between s gap (gap + long + 2) ≡ false → other ≡ plainAt o s
-      not-spaced e = not-plain o s (tested ∙ rw e)
+      tested : isPlain o s ≡ ltb space (byteAt s (gap + long + 2))
+      tested = parts-tested o s room first ∙ rw (weight .text, lit .text, bytes-are)
 
-      module _ (spaced : between s gap (gap + long + 2) ≡ true) where
-        pub no-number : variable ≡ 0 → other ≡ plainAt o s
-        no-number e = not-plain o s (tested ∙ rw (spaced, e, lane-zero))
+      pub two-blanks : byteAt s (gap + long + 2) ≤ space → other ≡ plainAt o s
+      two-blanks h = not-plain o s (tested ∙ le-ltb space (byteAt s (gap + long + 2)) h)
 
-        pub plain-found : (p : PlainTerm) → p .negative ≡ negative → p .size ≡ laneValue digits → p .negated ≡ negated
-            → p .number ≡ laneValue variable → 0 < laneValue variable → plain p (gap + long + 2) ≡ plainAt o s
-        unfolding plainAt
-        plain-found p a b c d positive =
-            let t : termWith (p .negative) (p .size) (p .negated) (p .number) ≡ termOf s =
-            rw (a, weight .front, b, weight .part .number, c, lit .front, d, lit .part .number) in
-            rw (tested, spaced, lt-ltb 0 (laneValue variable) positive, bytes-are, ← t)
+      pub plain-found : (p : PlainTerm) → p .negative ≡ negative → p .size ≡ size → p .negated ≡ negated → p .number ≡ number
+          → space < byteAt s (gap + long + 2) → plain p (gap + long + 2) ≡ plainAt o s
+      unfolding plainAt
+      plain-found p a b c d h =
+          let t : termOf s ≡ p = rw (weight .front, weight .digits, lit .front, lit .digits, ← a, ← b, ← c, ← d) in
+          rw (tested, lt-ltb space (byteAt s (gap + long + 2)) h, bytes-are, t)

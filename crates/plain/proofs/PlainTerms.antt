@@ -24,12 +24,12 @@ use Rattle.definitions.specs.declared.Options.{Options}
 use Rattle.definitions.proofs.Chains.{chain-got}
 use Rattle.definitions.proofs.Numbers.{leading-head, most, signed-within, number-minus, number-unsigned, ended-got}
 use Rattle.definitions.proofs.Readback.{digit-begins, one-space}
-use Rattle.plain.specs.Plain.{plain, byteAt, digitsOf, bytesOf, sign, letters, behind, termBytes, termOf, plainAt, plainTerm}
-use Rattle.plain.specs.Plain.{PlainFits, PlainIs}
+use Rattle.plain_parts.specs.Parts.{byteAt, digitsOf, bytesOf, sign, letters}
+use Rattle.plain_parts.proofs.Leading.{leading-small}
+use Rattle.plain_parts.proofs.PartTests.{sign-minus, sign-none, letters-tilde, letters-none, Part, Literal}
+use Rattle.plain.specs.Plain.{plain, behind, termBytes, termOf, plainAt, plainTerm, PlainFits, PlainIs}
 use Rattle.plain.specs.declared.PlainTerm.{PlainTerm}
-use Rattle.plain.proofs.Leading.{leading-small}
-use Rattle.plain.proofs.PlainTests.{sign-minus, sign-none, letters-tilde, letters-none, Part, Literal, PlainText}
-use Rattle.plain.proofs.PlainTests.{plain-here}
+use Rattle.plain.proofs.PlainTests.{PlainText, plain-here}
 
 -- ---- from one to seven digits at the front
 module _ (s : List ℕ) (some : 0 < length (leading s)) (short : length (leading s) ≤ 7) where

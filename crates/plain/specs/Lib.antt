@@ -1,3 +1,1 @@
 pub mod Plain
-pub mod Lanes
-pub mod Parts

@@ -1,19 +1,20 @@
 -- Which terms are plain? `-12 ~x345 `: a weight of at most seven bytes, `-` or nothing and digits; one space; a literal
 -- of at most seven bytes, `x` or `~x` and digits, a file number above 0; one space, and no blank behind it. At least 17
--- bytes are left, and the first index is 0 or 1.
+-- bytes are left, and the first index is 0 or 1. Weight and literal with their spaces are defined in plain_parts.
 use Prim.Native.Nat.{ℕ, _+_, _-_, _≤_, _<_}
 use mathlib.Core.Path.{_≡_}
 use mathlib.Core.Bool.{Bool, cond, _&&_}
 use mathlib.Core.List.{List}
 use lib.Dec.{eqb, leb, ltb}
-use lib.ListN.{length, drop, getD}
-use Rattle.definitions.specs.Bytes.{space, minus, letterX, tilde}
-use Rattle.definitions.specs.Number.{leading, value, signed}
+use lib.ListN.{length, drop}
+use Rattle.definitions.specs.Bytes.{space, minus, tilde}
+use Rattle.definitions.specs.Number.{value, signed}
 use Rattle.definitions.specs.Literal.{codeOf}
 use Rattle.definitions.specs.Walk.{item}
 use Rattle.definitions.specs.Row.{Term, term}
 use Rattle.definitions.specs.Text.{termStep}
 use Rattle.definitions.specs.declared.Options.{Options}
+use Rattle.plain_parts.specs.Parts.{byteAt, digitsOf, bytesOf, sign, isWeight, letters, isLiteral}
 use Rattle.plain.specs.declared.PlainTerm.{PlainTerm}
 use Rattle.plain.specs.declared.PlainRead.{PlainRead}
 use Rattle.plain.specs.declared.PlainRead.the-variants as read
@@ -26,36 +27,6 @@ pub data Plain : Type 0 where
 abbrev pub saidPlain : PlainRead → Plain
 saidPlain (read.Plain p n) = plain p n
 saidPlain read.Other = other
-
--- the byte at a place; 0 behind the end
-abbrev pub byteAt : List ℕ → ℕ → ℕ
-byteAt s i = getD s i 0
-
--- ---- a part: k bytes, and the digits behind them, as many as there are
-
-abbrev pub digitsOf : ℕ → List ℕ → List ℕ
-digitsOf k s = leading (drop k s)
-
-abbrev pub bytesOf : ℕ → List ℕ → ℕ
-bytesOf k s = k + length (digitsOf k s)
-
--- one digit at least, seven bytes at most, and a space behind them
-unfoldable pub isPart : ℕ → List ℕ → Bool
-isPart k s = ltb k (bytesOf k s) && (leb (bytesOf k s) 7 && eqb (byteAt s (bytesOf k s)) space)
-
--- ---- a weight: `-` or nothing, and digits
-unfoldable pub sign : List ℕ → ℕ
-sign s = cond (eqb (byteAt s 0) minus) 1 0
-
-abbrev pub isWeight : List ℕ → Bool
-isWeight s = isPart (sign s) s
-
--- ---- a literal: `x` or `~x`, and digits
-unfoldable pub letters : List ℕ → ℕ
-letters s = cond (eqb (byteAt s 0) tilde) 2 1
-
-unfoldable pub isLiteral : List ℕ → Bool
-isLiteral s = eqb (byteAt s (letters s - 1)) letterX && isPart (letters s) s
 
 -- ---- a term
 

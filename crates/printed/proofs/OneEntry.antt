@@ -16,7 +16,7 @@ use Rattle.definitions.specs.Write.{unitTerm, weighs, Item, line, itemBy, itemI
 use Rattle.definitions.specs.declared.Mode.{Mode}
 use Rattle.definitions.specs.declared.Kind.{Kind}
 use Rattle.definitions.specs.declared.Kind.the-variants.{AtLeast as atLeast}
-use Rattle.columns.proofs.Terms.{terms-at}
+use Rattle.term_checks.proofs.Terms.{terms-at}
 use Rattle.printed.specs.declared.kinds.Sort as said
 use Rattle.printed.specs.declared.kinds.Sort.the-variants.{Comment, Row, Refused}
 use Rattle.printed.specs.Kinds.{weightedSort, cardinalitySort, sortSaid}

@@ -22,7 +22,7 @@ use Rattle.definitions.specs.declared.Kind.the-variants.{AtLeast as atLeast, At
 use Rattle.definitions.specs.Back.{isGoal}
 use Rattle.definitions.proofs.MeansBack.{shownKind}
 use Rattle.definitions.proofs.Whole.{up-pos, dn-pos, up-neg, dn-neg, sum-is, diff-is, same}
-use Rattle.columns.specs.Sizes.{capped}
+use Rattle.term_checks.specs.Sizes.{capped}
 use Rattle.shown.specs.declared.terms.Style.{Style}
 use Rattle.printed.specs.Kinds.{isAtMost}
 use Rattle.shown.specs.Terms.{flippedCode, flippedTerm, plainedTerm, shownTerm, fallen}

@@ -130,9 +130,9 @@ pub same-answers : (o : Options) (s : List ℕ) → Rattle.definitions.specs.St
 same-answers = Rattle.definitions.proofs.SameAnswers.same-answers
 
 -- The OPB document's files are read, with the document's meaning.
-pub document-read : (f : Rattle.definitions.specs.Document.File) → Rattle.definitions.specs.Document.WellFormed f
-    → Rattle.definitions.specs.DocumentRead.WithinLimits f → Rattle.definitions.proofs.OpbDocument.DocumentRead f
-document-read = Rattle.definitions.proofs.OpbDocument.document-read
+pub document-read : (f : Rattle.document.specs.Document.File) → Rattle.document.specs.Document.WellFormed f
+    → Rattle.document.specs.DocumentRead.WithinLimits f → Rattle.document.proofs.OpbDocument.DocumentRead f
+document-read = Rattle.document.proofs.OpbDocument.document-read
 
 -- A block of value lines that is accepted: what was known stays known, with its value.
 pub known-stays : (b : List ℕ) (n : ℕ) (ws ks cs : List ℕ) → valuing b n ws ks ≡ accepted cs → (v : ℕ) → isKnown ws ks v ≡ true

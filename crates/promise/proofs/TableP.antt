@@ -6,11 +6,12 @@ use mathlib.Core.List.{List, [], _∷_, map}
 use denote.Ref.{now}
 use lib.ListN.{length}
 use Rattle.definitions.specs.Lists.{AllOf}
+use Rattle.definitions.specs.Bytes.{bytes}
 use Rattle.definitions.specs.Table.{Table, table, Outcome, counted, after}
 use Rattle.definitions.specs.declared.Totals.{Totals}
 use Rattle.definitions.specs.File.{firstAt, reading}
 use Rattle.definitions.specs.Write.{writing, outputAfter, lengthOf}
-use Rattle.definitions.specs.TableP.{Question, reads, writes, Answer, lines, text, answerTo, Example, tableP, bytes, modeFrom, roomy}
+use Rattle.definitions.specs.TableP.{Question, reads, writes, Answer, lines, text, answerTo, Example, tableP, modeFrom, roomy}
 use Rattle.definitions.specs.declared.Options.{Options}
 use Rattle.definitions.specs.declared.Mode.{Mode}
 use Rattle.definitions.proofs.TableP.{every-example}

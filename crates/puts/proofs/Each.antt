@@ -6,7 +6,7 @@ use mathlib.Core.List.{List, [], _∷_, _++_}
 use lib.ListN.{length}
 use Rattle.definitions.specs.Lists.{joined}
 use Rattle.definitions.specs.Output.{putIn}
-use Rattle.definitions.proofs.Puts.{Puts, front-room, rest-room, puts-then, puts-none}
+use Rattle.laws.proofs.Puts.{Puts, front-room, rest-room, puts-then, puts-none}
 use Rattle.puts.specs.Lands.{placeAfter, Lands}
 use Rattle.puts.specs.Each.{placeBehind, putEach, LandsEach}
 use Rattle.puts.proofs.Lands.{lands}

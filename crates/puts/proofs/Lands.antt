@@ -11,7 +11,7 @@ use lib.ListN.{length, take, drop, set}
 use lib.Seq.{length-take-le, take-append-le, take-take, drop-at, set-split}
 use Rattle.definitions.specs.Output.{fitsAt, putAt, putIn}
 use Rattle.definitions.specs.Refusal.{refuse, accept}
-use Rattle.definitions.proofs.Puts.{Puts, placed, placed-length, put-in-fits, put-in-full, put-done, put-full, put-at-full}
+use Rattle.laws.proofs.Puts.{Puts, placed, placed-length, put-in-fits, put-in-full, put-done, put-full, put-at-full}
 use Rattle.definitions.proofs.Truths.{never}
 use Rattle.outputs.specs.Print.{put, Prints}
 use Rattle.outputs.specs.declared.Put.{Put}

@@ -8,7 +8,7 @@ ghost use Prim.Native.Nat.{_≤_};
 ghost use lib.ListN.{length};
 ghost use Rattle.definitions.specs.Refusal.{refusal};
 ghost use Rattle.definitions.specs.House.{refusedLine};
-ghost use Rattle.definitions.proofs.Puts.{Puts};
+ghost use Rattle.laws.proofs.Puts.{Puts};
 ghost use Rattle.outputs.specs.Print.{Prints};
 
 // The length of the line of a refusal: `refused`, two tabs, number, place and an LF.

@@ -18,7 +18,7 @@ use Rattle.definitions.specs.Meaning.{Assignment, sumOf, assigned}
 use Rattle.definitions.specs.Evaluate.{Evaluated as Found, covered, found, foundIn, onPlace, evaluatingBy}
 use Rattle.columns.specs.Kinds.{readKind}
 use Rattle.columns.proofs.KindNumbers.{read-kind, unread-kind, line-by-terms}
-use Rattle.columns.proofs.Terms.{entryAt, entries-from, entries-end}
+use Rattle.columns.proofs.Entries.{entryAt, entries-from, entries-end}
 use Rattle.assigned.specs.Parts.{hasBy}
 use Rattle.summed.specs.Sums.{summedAt}
 use Rattle.verdicts.specs.Said.{saidEvaluated}

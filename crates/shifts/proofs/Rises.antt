@@ -15,8 +15,8 @@ use Rattle.definitions.specs.declared.Kind.{Kind}
 use Rattle.definitions.specs.declared.Kind.the-variants.{AtLeast as atLeast, AtMost as atMost, Equal as equal, Objective as objective}
 use Rattle.definitions.specs.Table.{termsOn}
 use Rattle.definitions.specs.Normal.{moved, totalBy, riseBy, rise}
-use Rattle.columns.specs.Sizes.{sizeCap, capped}
-use Rattle.columns.specs.Parts.{weightSizes}
+use Rattle.term_checks.specs.Sizes.{sizeCap, capped}
+use Rattle.term_checks.specs.Parts.{weightSizes}
 use Rattle.shifts.specs.Shifts.{riseOf, weightRises, shiftBy, shiftOf}
 
 -- ---- one weight

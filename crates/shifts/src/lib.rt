@@ -16,7 +16,7 @@ fn rise_of(weights: &[i64]) -> u64
     while i < weights.len() {
         let weight = weights[i];
         if weight < 0 {
-            rise = columns::add_size(rise, weight);
+            rise = term_checks::add_size(rise, weight);
         }
         i += 1;
     }

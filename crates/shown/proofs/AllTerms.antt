@@ -6,7 +6,7 @@ use Prim.Native.Nat.{ℕ, _+_, _≤_, _<_, min}
 use lib.IntN.{ℤ, pos}
 use lib.ListN.{length, getD, drop}
 use Rattle.definitions.specs.Row.{term}
-use Rattle.columns.proofs.Terms.{terms-from, terms-end}
+use Rattle.term_checks.proofs.Terms.{terms-from, terms-end}
 use Rattle.shown.specs.Terms.{ownTerm, ownTerms}
 
 module _ (unit : Bool) (ws : List ℤ) (cs : List ℕ) (i : ℕ) where

@@ -5,26 +5,19 @@ use mathlib.Core.List.{List, [], _∷_, _++_}
 use Prim.Native.Nat.{ℕ, _+_, _%_, _≤_, _<_, _^_, zero, suc}
 use native.Mathlib.Omega.{arith}
 use borrow.Author.Tests.{ne-eqb, ltb-true}
-use lib.Dec.{leb}
 use lib.IntN.{ℤ, pos, negsuc, negℤ, _-ℤ_, +ℤ-idl}
 use lib.Signed.{ltZ, nonNeg}
 use mir.Syntax.{w64}
 use mir.Val.{SFits}
 use lib.ListN.{length, length-append}
 use Rattle.definitions.specs.Bytes.{space}
-use Rattle.definitions.specs.Limits.{fileNumberLimit}
-use Rattle.definitions.specs.Refusal.{refuse, accept}
-use Rattle.definitions.specs.Literal.{indexOf, fileNumber, negated, plain}
+use Rattle.definitions.specs.Literal.{indexOf, negated, plain}
 use Rattle.definitions.specs.Number.{decimal, integerText}
 use Rattle.definitions.specs.Row.{Term, term}
-use Rattle.definitions.specs.Write.{flipTerm, plainTerm, unitTerm, isAccepted, termText, literalText, numberText}
+use Rattle.definitions.specs.Write.{flipTerm, plainTerm, unitTerm, termText, literalText, numberText}
 use Rattle.definitions.proofs.Numbers.{decimal-length-most}
 use Rattle.definitions.proofs.Meanings.{opposite-half, plain-half}
-use Rattle.literals.specs.Said.{saidFileNumber}
 use Rattle.literals.specs.declared.Var.{Var}
-use Rattle.literals.specs.declared.FileNumber.{FileNumber}
-use Rattle.literals.specs.declared.FileNumberRead.{FileNumberRead}
-use Rattle.literals.specs.declared.FileNumberRead.the-variants as file-number
 use Rattle.shown.specs.declared.terms.Style.{Style}
 use Rattle.shown.specs.declared.terms.Shown.{Shown}
 use Rattle.shown.specs.Terms.{flippedCode, ownWeight, ownTerm, flippedTerm, plainedTerm, shownTerm, fallen}
@@ -197,17 +190,3 @@ module _ {s : Style} {t : Term} {x : Shown} (h : Shows s t x) where
       → spacedBy (s .apart) (termWords x n) ≡ shownText s t
   unfolding shownText
   spaced-words n w e = ap (spacedBy (s .apart)) (shown-words n w e)
-
--- ---- the file number of a variable
-
-module _ (first v : ℕ) (r : FileNumberRead) (e : saidFileNumber r ≡ fileNumber first v) where
-  pub number-is : (n : FileNumber) → r ≡ file-number.Is n → (n .0 ≡ v + first) × (isAccepted (fileNumber first v) ≡ true)
-  unfolding fileNumber
-  number-is n q = (value (leb (v + first) fileNumberLimit) (sym (ap saidFileNumber q) ∙ e), ap isAccepted (sym e ∙ ap saidFileNumber q))
-    where
-      value : (b : Bool) → accept (n .0) ≡ cond b (accept (v + first)) (refuse 5) → n .0 ≡ v + first
-      value true p = cc
-      value false p = let z : _≡_ {A = ℕ} 0 1 = cc in absurd (omega arith)
-
-  pub no-number : r ≡ file-number.OutOfRange → isAccepted (fileNumber first v) ≡ false
-  no-number q = ap isAccepted (sym e ∙ ap saidFileNumber q)

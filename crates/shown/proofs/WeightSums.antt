@@ -6,7 +6,7 @@ use Prim.Native.Nat.{ℕ, _+_, _≤_}
 use native.Mathlib.Omega.{arith}
 use lib.IntN.{natAbs}
 use Rattle.definitions.specs.Row.{Term, sizes}
-use Rattle.columns.specs.Sizes.{sizeCap, capped}
+use Rattle.term_checks.specs.Sizes.{sizeCap, capped}
 use Rattle.shown.specs.declared.terms.Style.{Style}
 use Rattle.shown.specs.declared.sums.Sums.{Sums}
 use Rattle.shown.specs.Terms.{fallen}

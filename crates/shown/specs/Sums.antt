@@ -4,7 +4,7 @@ use mathlib.Core.Bool.{Bool, true, false}
 use mathlib.Core.List.{List, [], _∷_}
 use lib.IntN.{ℤ, natAbs}
 use Rattle.definitions.specs.Row.{Term}
-use Rattle.columns.specs.Sizes.{capped}
+use Rattle.term_checks.specs.Sizes.{capped}
 use Rattle.shown.specs.declared.terms.Style.{Style}
 use Rattle.shown.specs.declared.sums.Sums.{Sums}
 use Rattle.shown.specs.Terms.{fallen}

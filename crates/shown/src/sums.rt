@@ -1,4 +1,4 @@
-// The sums of a row's weights, up to the cap of columns. Assumes nothing.
+// The sums of a row's weights, up to the cap of term_checks. Assumes nothing.
 ghost use mathlib.Core.Path.{_≡_};
 ghost use Rattle.shown.specs.Sums.{sumsWith};
 
@@ -12,9 +12,9 @@ pub struct Sums {
 pub fn with_weight(s: Sums, w: i64, falls: bool) -> Sums
     ensures { λ r. ⌜ r ≡ sumsWith s w falls ⌝ }
 {
-    let total = columns::add_size(s.total, w);
+    let total = term_checks::add_size(s.total, w);
     if falls {
-        let fall = columns::add_size(s.fall, w);
+        let fall = term_checks::add_size(s.fall, w);
         return Sums { total, fall };
     }
     Sums {

@@ -8,21 +8,15 @@ use Rattle.definitions.specs.declared.Refusal.{Refusal}
 use Rattle.definitions.specs.Lists.{joined}
 use Rattle.definitions.specs.Refusal.{further}
 use Rattle.definitions.specs.Walk.{Walked, stop, bad}
-use Rattle.definitions.specs.Row.{Line, termsOf}
+use Rattle.definitions.specs.Row.{Line}
 use Rattle.definitions.specs.Table.{refused, accepted, totalsOf, counted, allTerms}
 use Rattle.definitions.specs.Text.{statement, inFile}
 use Rattle.definitions.specs.File.{linesOf, statements}
 use Rattle.definitions.specs.declared.Options.{Options}
 use Rattle.definitions.proofs.Walks.{At, at-start, at-stop, at-bad, at-item}
 use Rattle.definitions.proofs.Statements.{statement-moves, statement-taken}
+use Rattle.definitions.proofs.Columns.{terms-snoc}
 use Rattle.statements.proofs.Briefs.{LineIs, bad-within, terms-in-file}
-
-terms-behind : (ls : List Line) (l : Line) → length (allTerms (ls ++ (l ∷ []))) ≡ length (allTerms ls) + length (termsOf l)
-unfolding joined
-terms-behind [] l = omega (arith, length-append (termsOf l) [])
-terms-behind (x ∷ ls) l =
-    let e = terms-behind ls l in
-    omega (arith, length-append (termsOf x) (allTerms (ls ++ (l ∷ []))), length-append (termsOf x) (allTerms ls))
 
 -- at an offset: the rows before it, how many they are and how many terms they have
 pub record Counting (o : Options) (s : List ℕ) (at rows terms : ℕ) : Type 0 where
@@ -79,7 +73,7 @@ module _ (o : Options) (s : List ℕ) (at rows terms : ℕ) (w : Counting o s at
           lines = w .lines ++ (p ∷ []);
           stands = at-item (statement o) inFile (statement-moves o) s at (w .lines) (w .stands) (l .line) n (l .is);
           counted = omega (arith, length-append (w .lines) (p ∷ []), w .counted);
-          termed = omega (arith, terms-behind (w .lines) p, ap length (terms-in-file at (l .line)), w .termed, l .counted);
+          termed = omega (arith, terms-snoc (w .lines) p, ap length (terms-in-file at (l .line)), w .termed, l .counted);
           fewer-rows = omega (arith, line-has-byte, w .fewer-rows);
           fewer-terms = omega (arith, line-terms-fewer, w .fewer-terms);
         }

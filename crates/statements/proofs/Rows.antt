@@ -29,7 +29,7 @@ use Rattle.definitions.specs.declared.Beginning.the-variants.{Comment, Objectiv
 use Rattle.definitions.proofs.Chains.{chain-none, chain-got, chain-linked}
 use Rattle.definitions.proofs.Statements.{RowTaken, remark-taken, within-comparison, within-ending}
 use Rattle.definitions.proofs.Texts.{blanks-within}
-use Rattle.columns.specs.Sizes.{capped}
+use Rattle.term_checks.specs.Sizes.{capped}
 use Rattle.beginnings.specs.Said.{saidComment}
 use Rattle.beginnings.specs.declared.CommentRead.{CommentRead}
 use Rattle.beginnings.specs.declared.CommentRead.the-variants as comment'

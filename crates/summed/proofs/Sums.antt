@@ -14,7 +14,7 @@ use Rattle.definitions.specs.Row.{Term, sizes}
 use Rattle.definitions.specs.Table.{termsOn}
 use Rattle.definitions.specs.Meaning.{isTrue, sumOf}
 use Rattle.definitions.proofs.Whole.{abs-is, sum-is, one-side, is-in}
-use Rattle.columns.proofs.Terms.{terms-take, terms-to}
+use Rattle.term_checks.proofs.Terms.{terms-take, terms-to}
 
 -- what a term adds
 abbrev counted : (ℕ → Bool) → ℤ → ℕ → ℤ

@@ -59,8 +59,8 @@ fn sum_terms(weights: &[i64], literals: &[u32], words: &[u64], known: &[u64], al
     requires { ⌜ length (now weights) ≡ length (now literals) ⌝ }
     ensures { λ r. ⌜ saidSummed r ≡ summedOver (hasBy all (now (words .entry)) (now (known .entry))) (assigned (now (words .entry))) (termsOn (now (weights .entry)) (now (literals .entry))) ⌝ }
 {
-    let indexed = columns::indexed_of(literals);
-    let size = columns::sizes_of(weights);
+    let indexed = term_checks::indexed_of(literals);
+    let size = term_checks::sizes_of(weights);
     let covers = assigned::covered(literals, words, known, all);
     if !indexed {
         return Summed::Refused(11);

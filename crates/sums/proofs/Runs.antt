@@ -18,7 +18,7 @@ use Rattle.definitions.specs.Text.{termStep}
 use Rattle.definitions.specs.declared.Options.{Options}
 use Rattle.definitions.proofs.Parts.{part-is}
 use Rattle.definitions.proofs.Statements.{term-moves}
-use Rattle.columns.specs.Sizes.{capped}
+use Rattle.term_checks.specs.Sizes.{sizeCap, capped}
 use Rattle.plain.proofs.PlainTerms.{plain-is-term}
 use Rattle.literals.proofs.Conversions.{accepted, no-refusal, index-within, literal-within}
 use Rattle.numbers.proofs.Signed.{neg-sfits, neg-is}
@@ -82,18 +82,23 @@ module _ {o : Options} {s : List ℕ} {count₀ size₀ : ℕ} {w₀ : List ℤ}
         literals = q .1 ∙ k .literals;
       }
 
+  -- a size up to the cap stays there
+  pub ran-under : size₀ ≤ sizeCap → {at count size : ℕ} {w : List ℤ} {l : List ℕ} → Ran o s count₀ size₀ w₀ l₀ at count size w l
+      → size ≤ sizeCap
+  ran-under h begun = h
+  ran-under h (further t n r e p) = omega arith
+
   -- ---- one plain term more, its size added as the code does
   module _ {at count size : ℕ} {w : List ℤ} {l : List ℕ} (r : Ran o s count₀ size₀ w₀ l₀ at count size w l) {p : PlainTerm} {n : ℕ}
       (is : PlainIs o (drop at s) p n) where
     pub plain-has-byte : 0 < n
     plain-has-byte = term-moves o .least (drop at s) (plainTerm (o .first) p) n (is .step)
 
-    pub ran-plain : {size' : ℕ} {w' : List ℤ} {l' : List ℕ} → size' ≡ capped (size + natAbs (toZ w64 (p .size)))
+    pub ran-plain : {size' : ℕ} {w' : List ℤ} {l' : List ℕ} → size' ≡ capped (size + p .size)
         → TermPut count (plainTerm (o .first) p .weight) (plainTerm (o .first) p .code) w l w' l'
         → Ran o s count₀ size₀ w₀ l₀ (at + n) (count + 1) size' w' l'
     ran-plain e put =
-        let a : natAbs (toZ w64 (p .size)) ≡ natAbs (plainTerm (o .first) p .weight) =
-        ap natAbs (toZ-pos w64 (omega (arith, is .fits .size))) ∙ sym (signed-size (p .negative) (p .size)) in
+        let a : p .size ≡ natAbs (plainTerm (o .first) p .weight) = sym (signed-size (p .negative) (p .size)) in
         rw (e, a) (further (plainTerm (o .first) p) n r (is .step) put)
 
 -- the rest of a text from an offset on: an answer that is a plain term there, and what is left behind it

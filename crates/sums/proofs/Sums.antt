@@ -16,7 +16,7 @@ use Rattle.definitions.specs.declared.Options.{Options}
 use Rattle.definitions.proofs.Walks.{At, at-start, at-stop, at-bad, at-item}
 use Rattle.definitions.proofs.Statements.{term-moves}
 use Rattle.definitions.proofs.Truths.{never}
-use Rattle.columns.specs.Sizes.{capped}
+use Rattle.term_checks.specs.Sizes.{capped}
 use Rattle.sums.specs.Brief.{SumBrief, sumBrief, summed}
 
 pub sizes-behind : (ts : List Term) (t : Term) → sizes (ts ++ (t ∷ [])) ≡ sizes ts + natAbs (t .weight)

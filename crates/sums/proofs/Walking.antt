@@ -3,12 +3,12 @@
 use Prim.Native.Nat.{ℕ, _+_, _≤_, _<_, min}
 use mathlib.Core.Path.{_≡_, refl, sym, ap, _∙_}
 use mathlib.Core.Bool.{Bool, true, false, cond}
-use mathlib.Core.List.{List, [], _∷_, _++_, map, map-append, append-assoc, append-nil}
+use mathlib.Core.List.{List, [], _∷_, _++_, map, append-assoc, append-nil}
 use native.Mathlib.Omega.{arith}
 use native.Mathlib.Decide.{decLt}
 use borrow.Author.Tests.{lt-ltb, le-ltb}
 use lib.Dec.{ltb}
-use lib.ListN.{length, take, drop, set, length-append, length-map, length-set}
+use lib.ListN.{length, take, drop, set, length-append, length-set}
 use lib.Seq.{take-all, take-nil, take-append-le, drop-drop}
 use lib.IntN.{ℤ, natAbs}
 use Rattle.definitions.specs.Refusal.{faultOf}
@@ -19,24 +19,14 @@ use Rattle.definitions.specs.Stepping.{columnsRoom}
 use Rattle.definitions.specs.Text.{termStep}
 use Rattle.definitions.specs.Walk.{stop, bad, item}
 use Rattle.definitions.specs.declared.Options.{Options}
-use Rattle.definitions.proofs.Columns.{over-length, over-set}
+use Rattle.definitions.proofs.Columns.{column-more}
 use Rattle.definitions.proofs.Statements.{term-moves}
-use Rattle.columns.specs.Sizes.{capped}
+use Rattle.term_checks.specs.Sizes.{capped}
 use Rattle.sums.specs.Met.{metFrom, metTerms}
-use Rattle.sums.specs.Walked.{TermsFilled, TermsPut, TermPut, SumWalked}
+use Rattle.sums.specs.Walked.{TermsPut, TermPut, SumWalked}
 use Rattle.sums.specs.declared.SumRead.the-variants as walked
 use Rattle.sums.proofs.MetTerms.{met-stop, met-bad, met-item}
 use Rattle.sums.proofs.Sums.{Summing, summing-start, summing-stop, summing-bad, summing-term}
-
--- ---- a column that holds f of each: as long as it was, and one more
-module _ {A B : Type 0} (f : A → B) (pre : List A) (l₀ l : List B) (e : l ≡ over (map f pre) l₀) where
-  pub column-length : length pre ≤ length l₀ → length l ≡ length l₀
-  column-length h = ap length e ∙ over-length (map f pre) l₀ (omega (arith, length-map pre f))
-
-  pub column-more : (n : ℕ) (a : A) → n ≡ length pre → n < length l₀ → set l n (f a) ≡ over (map f (pre ++ (a ∷ []))) l₀
-  column-more n a q h =
-      ap (λ (x : List B). set x n (f a)) e ∙ over-set (map f pre) l₀ n (f a) (q ∙ sym (length-map pre f)) h
-      ∙ ap (λ (x : List B). over x l₀) (sym (map-append f pre (a ∷ [])))
 
 -- ---- a term put into two columns
 

@@ -4,7 +4,7 @@ use mathlib.Core.List.{List}
 use lib.ListN.{length}
 use Rattle.definitions.specs.Reader.{Got, none, got}
 use Rattle.definitions.specs.Row.{Term, sizes}
-use Rattle.columns.specs.Sizes.{capped}
+use Rattle.term_checks.specs.Sizes.{capped}
 use Rattle.sums.specs.declared.SumRead.{SumRead}
 use Rattle.sums.specs.declared.SumRead.the-variants as read
 

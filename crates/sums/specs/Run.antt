@@ -8,7 +8,7 @@ use Rattle.definitions.specs.Walk.{item}
 use Rattle.definitions.specs.Row.{Term}
 use Rattle.definitions.specs.Text.{termStep}
 use Rattle.definitions.specs.declared.Options.{Options}
-use Rattle.columns.specs.Sizes.{capped}
+use Rattle.term_checks.specs.Sizes.{capped}
 use Rattle.sums.specs.Walked.{TermPut}
 use Rattle.sums.specs.declared.run.PlainRun.{PlainRun}
 

@@ -63,7 +63,7 @@ pub fn weighted_lit_sum(
                 taken,
             } => {
                 put_term(weights, literals, count, weight, literal);
-                size = columns::add_size(size, weight);
+                size = term_checks::add_size(size, weight);
                 count += 1;
                 at += taken;
             }

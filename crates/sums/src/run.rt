@@ -7,11 +7,13 @@ use literals::Var;
 use literals::VarRead;
 use plain::PlainRead;
 use plain::PlainTerm;
+use term_checks::SIZE_CAP;
 ghost use mathlib.Core.Path.{_≡_};
-ghost use Prim.Native.Nat.{_+_, _<_, _^_};
+ghost use Prim.Native.Nat.{_+_, _≤_, _<_, _^_};
 ghost use lib.ListN.{length};
 ghost use Rattle.definitions.specs.Refusal.{accept};
 ghost use Rattle.literals.specs.Said.{saidLit};
+ghost use Rattle.term_checks.specs.Sizes.{sizeCap, capped};
 ghost use Rattle.sums.specs.Walked.{TermPut};
 ghost use Rattle.plain.specs.Plain.{PlainFits, plainTerm};
 ghost use Rattle.sums.specs.Run.{RunSays};
@@ -53,6 +55,16 @@ fn put_plain(weights: &mut [i64], literals: &mut [u32], at: usize, term: PlainTe
     }
 }
 
+// A size up to the cap and a plain weight's more. That sum is within 64 bits, so it needs no look at the size before it,
+// as `term_checks::add_size` does for any two.
+fn add_plain(size: u64, weight: u64) -> u64
+    requires { ⌜ (size ≤ sizeCap) × (weight < 100_000_000) ⌝ }
+    ensures { λ r. ⌜ r ≡ capped (size + weight) ⌝ }
+{
+    let sum = size + weight;
+    if sum < SIZE_CAP { sum } else { SIZE_CAP }
+}
+
 // The plain terms at the front of s, one after the other, behind so many that are counted already.
 pub(crate) fn walk_plain(
     s: &[u8],
@@ -62,7 +74,7 @@ pub(crate) fn walk_plain(
     from: usize,
     before: u64,
 ) -> PlainRun
-    requires { ⌜ from + length (now s) < 2 ^ 64 ⌝ }
+    requires { ⌜ (from + length (now s) < 2 ^ 64) × (before ≤ sizeCap) ⌝ }
     ensures { λ r. ⌜ RunSays options (now (s .entry)) from before (now (weights .entry)) (now (literals .entry)) r (now (weights .exit)) (now (literals .exit)) ⌝ }
 {
     let mut terms: usize = from;
@@ -78,7 +90,7 @@ pub(crate) fn walk_plain(
             };
         };
         put_plain(weights, literals, terms, term, options.first);
-        size = columns::add_size(size, term.size as i64);
+        size = add_plain(size, term.size);
         terms += 1;
         at += taken;
         rest = &rest[taken..];

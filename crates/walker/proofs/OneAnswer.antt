@@ -1,14 +1,12 @@
 -- Each public function has one possible answer for each input: two that its contract allows are equal. None changes
 -- what it is lent.
 use mathlib.Core.Path.{_≡_, refl, sym, _∙_}
-use Rattle.definitions.proofs.Answers.{counted-known}
 use Rattle.definitions.proofs.Truths.{never}
 use Rattle.walker.specs.Said.{saidStepped}
 use Rattle.walker.specs.declared.steps.Stepped.{Stepped}
 use Rattle.walker.specs.declared.steps.Stepped.the-variants.{End, Refused, Line}
 use Rattle.walker.proofs.steps.step_at.Reads as step-at
 use Rattle.walker.proofs.steps.offset_after.Reads as offset-after
-use Rattle.walker.proofs.tally.count_steps.Reads as count-steps
 
 -- an answer is known by what it says
 pub said-stepped : (r r' : Stepped) → saidStepped r ≡ saidStepped r' → r ≡ r'
@@ -27,6 +25,3 @@ step-at-one κs a r r' s s' p q = said-stepped r r' (p ∙ sym q)
 
 pub offset-after-one : (κs : _) (a : _) (r r' : _) (s s' : _) → offset-after.Post κs a r s → offset-after.Post κs a r' s' → r ≡ r'
 offset-after-one κs a r r' s s' p q = p ∙ sym q
-
-pub count-steps-one : (κs : _) (a : _) (r r' : _) (s s' : _) → count-steps.Post κs a r s → count-steps.Post κs a r' s' → r ≡ r'
-count-steps-one κs a r r' s s' p q = counted-known r r' (p ∙ sym q)

@@ -42,7 +42,8 @@ use Rattle.definitions.specs.declared.Options.{Options}
 use Rattle.definitions.proofs.Options as O
 use Rattle.definitions.proofs.Options.Laws as O′
 use Rattle.walker.specs.Said.{saidStepped, briefStepped}
-use Rattle.held.specs.Walks.{walkerAt, stepOf, Nexts}
+use Rattle.held.specs.Walks.{walkerAt}
+use Rattle.held_steps.specs.Steps.{stepOf, Nexts}
 use Rattle.held.specs.declared.Walker.{Walker}
 use Rattle.walker.specs.declared.steps.Stepped.{Stepped}
 use Rattle.held.proofs.Walker as T
@@ -50,9 +51,9 @@ use Rattle.held.proofs.Walker.Laws as T′
 use Rattle.walker.proofs.steps.Stepped as S
 use Rattle.held.proofs.new as new
 use Rattle.held.proofs.moved as moved
-use Rattle.held.proofs.step as step
+use Rattle.held_steps.proofs.step as step
 use Rattle.held.proofs.at as at
-use Rattle.held.proofs.next as next
+use Rattle.held_steps.proofs.next as next
 
 module _ {M : Type 1} (𝓤 : URA M) (H : Heap 𝓤) (A : Atoms 𝓤) (mem : Memory → SProp 𝓤) (run : Routine → Fun 𝓤) where
   abbrev pub New : Contract 𝓤

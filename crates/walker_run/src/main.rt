@@ -26,8 +26,8 @@ fn walk_two(file: &[u8], options: Options) -> Walked
     ensures { λ r. ⌜ (saidStepped (r .first) ≡ briefStepped (stepAt options (now (file .entry)) 0)) × (saidStepped (r .second) ≡ briefStepped (stepAt options (now (file .entry)) (standsAfter options (now (file .entry)) 1))) × (r .at ≡ standsAfter options (now (file .entry)) 2) ⌝ }
 {
     let mut w = held::new(file, options);
-    let first = held::next(&mut w);
-    let second = held::next(&mut w);
+    let first = held_steps::next(&mut w);
+    let second = held_steps::next(&mut w);
     let at = held::at(w);
     Walked { first, second, at }
 }
@@ -36,7 +36,7 @@ fn walk_two(file: &[u8], options: Options) -> Walked
 fn look_ahead(file: &[u8], options: Options, at: usize) -> Stepped
     ensures { λ r. ⌜ saidStepped r ≡ briefStepped (stepAt options (now (file .entry)) at) ⌝ }
 {
-    held::step(held::moved(held::new(file, options), at))
+    held_steps::step(held::moved(held::new(file, options), at))
 }
 
 // The terms of the statement at an offset.
@@ -50,7 +50,7 @@ fn terms_at(
     ensures { λ r. ⌜ FillsTerms (termsAtStep options (now (file .entry)) at (now (weights .entry)) (now (literals .entry))) (now (weights .entry)) (now (literals .entry)) r (now (weights .exit)) (now (literals .exit)) ⌝ }
 {
     let w = held::moved(held::new(file, options), at);
-    held::fill(w, weights, literals)
+    held_fills::fill(w, weights, literals)
 }
 
 // ---- what is written

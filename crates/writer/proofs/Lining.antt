@@ -11,8 +11,8 @@ use Rattle.definitions.specs.Table.{Table, rowRoom, Outcome, refused, accepted,
 use Rattle.definitions.specs.declared.Entry.{Entry}
 use Rattle.definitions.specs.Write.{Item, itemText, writtenIn}
 use Rattle.definitions.specs.declared.Mode.{Mode}
-use Rattle.definitions.proofs.Puts.{placed, Puts, puts-length, placed-append, puts-none}
-use Rattle.columns.proofs.Terms.{entryAt, entries-from, entries-end}
+use Rattle.laws.proofs.Puts.{placed, Puts, puts-length, placed-append, puts-none}
+use Rattle.columns.proofs.Entries.{entryAt, entries-from, entries-end}
 use Rattle.printed.specs.Rows.{onColumns}
 use Rattle.printed.proofs.OneEntry.{written-on}
 use Rattle.measures.specs.Walks.{linesOf}

@@ -16,7 +16,7 @@ use Rattle.definitions.specs.declared.Entry.{Entry}
 use Rattle.definitions.specs.Write.{weighs, remarkText, rowText, printed, Item, say, line, itemText, oneLine}
 use Rattle.definitions.specs.Write.{rowAllowed, hasTerms, numbered, bounded, allowed, writtenIn}
 use Rattle.definitions.specs.declared.Mode.{Mode}
-use Rattle.definitions.proofs.Puts.{Puts, puts-as}
+use Rattle.laws.proofs.Puts.{Puts, puts-as}
 use Rattle.puts.specs.Each.{LandsEach}
 use Rattle.puts.proofs.Each.{allOf, each-puts}
 use Rattle.printed.specs.declared.kinds.Shape.{Shape}

@@ -4,7 +4,7 @@ use lines::put_row;
 use printed::Sort;
 use printed::sort_of;
 use puts::put_text;
-ghost use Rattle.definitions.proofs.Puts.{Puts};
+ghost use Rattle.laws.proofs.Puts.{Puts};
 ghost use Rattle.puts.specs.Each.{LandsEach};
 ghost use Rattle.printed.specs.Rows.{entryOf, onColumns};
 ghost use Rattle.writer.specs.Entries.{remarkPieces, entryText, EntryReady};

@@ -4,7 +4,7 @@ use mathlib.Core.Path.{sym}
 use Prim.Native.Nat.{_+_}
 use native.Mathlib.Omega.{arith}
 use borrow.Author.Tests.{lt-leb}
-use Rattle.numbers.proofs.Room.{room-is}
+use Rattle.definitions.proofs.Room.{room-is}
 use Rattle.columns.proofs.in_column.Statement.{statement}
 use Rattle.columns.proofs.in_column.Tie as tie
 

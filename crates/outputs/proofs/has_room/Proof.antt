@@ -3,7 +3,7 @@ use mathlib.Core.Path.{sym}
 use Prim.Native.Nat.{_+_}
 use native.Mathlib.Omega.{arith}
 use borrow.Author.Tests.{lt-leb}
-use Rattle.numbers.proofs.Room.{room-is}
+use Rattle.definitions.proofs.Room.{room-is}
 use Rattle.outputs.proofs.has_room.Statement.{statement}
 use Rattle.outputs.proofs.has_room.Tie as tie
 

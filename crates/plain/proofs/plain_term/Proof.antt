@@ -1,17 +1,15 @@
 -- `plain_term` meets its contract: each of its tests is one of `plainAt`'s (proofs/PlainAnswers.antt).
-use Prim.Native.Nat.{ℕ, _+_, _≤_, _<_, _^_}
+use Prim.Native.Nat.{ℕ, _+_, _≤_}
 use mathlib.Core.List.{List}
-use mathlib.Core.Path.{refl, sym, subst, _∙_}
+use mathlib.Core.Path.{_≡_, refl, sym, ap, _∙_}
 use native.Mathlib.Omega.{arith}
 use borrow.Author.Needs.{needs}
-use borrow.Author.Tests.{not-true, not-false}
 use denote.Ref.{now}
-use lib.ListN.{length, length-drop}
-use Rattle.definitions.proofs.Parts.{part-is}
+use lib.ListN.{length}
+use Rattle.plain_parts.specs.Parts.{saidWeight, saidLiteral, literalAt}
+use Rattle.plain_parts.proofs.PartAnswers.{WeightHere, weight-here, LiteralHere, literal-here}
 use Rattle.plain.specs.Plain.{behind}
-use Rattle.plain.specs.Parts.{WeightSays, WeightIs, LiteralSays, LiteralIs}
-use Rattle.plain.proofs.LaneValues.{lane-positive}
-use Rattle.plain.proofs.PlainAnswers.{too-short, first-above, no-weight, no-literal, literal-part, not-spaced, no-number}
+use Rattle.plain.proofs.PlainAnswers.{too-short, first-above, no-weight, gap-short, literal-part, no-literal, long-short, two-blanks}
 use Rattle.plain.proofs.PlainAnswers.{plain-found}
 use Rattle.plain.proofs.plain_term.Statement.{statement}
 use Rattle.plain.proofs.plain_term.Tie as tie
@@ -24,6 +22,9 @@ module _ (c : tie.Else2) where
   long : 17 ≤ length text
   long = omega (arith, c .before .before .if1 .left)
 
+  first : c .before .before .before .before .args .options .first ≤ 1
+  first = omega (arith, c .if2 .left)
+
 -- the weight has been read
 module _ (c : tie.After-negative) where
   abbrev fits : tie.Else2
@@ -32,26 +33,35 @@ module _ (c : tie.After-negative) where
   abbrev gap : ℕ
   gap = c .negative .given .0 .1 .1 .0
 
-  weight : WeightIs (text fits) (c .negative .given .0 .0) (c .negative .given .0 .1 .0) gap
-  weight = subst (WeightSays (text fits)) (c .negative .given .1) (c .before .before .plain-weight .ensures)
+  weight : WeightHere (text fits) (c .negative .given .0 .0) (c .negative .given .0 .1 .0) gap
+  weight = weight-here (text fits) _ _ _ (ap saidWeight (sym (c .negative .given .1)) ∙ c .before .before .plain-weight .ensures)
 
   room : gap + 1 + 8 ≤ length (text fits)
-  room = omega (arith, weight .part .short, long fits)
+  room = omega (arith, gap-short (text fits) weight, long fits)
 
 -- and the literal
-module _ (c : tie.After-negated) where
+module _ (c : tie.After-plain-literal) where
   abbrev read : tie.After-negative
-  read = c .before .before .before .before .before
+  read = c .before .before .before
+
+  said : saidLiteral (c .plain-literal .result) ≡ literalAt (behind (text (fits read)))
+  said = c .plain-literal .ensures ∙ ap literalAt (literal-part (text (fits read)) (weight read))
+
+module _ (c : tie.After-negated) where
+  abbrev lits : tie.After-plain-literal
+  lits = c .before .before
 
   abbrev taken : ℕ
   taken = c .negated .given .0 .1 .1 .0
 
-  lit : LiteralIs (behind (text (fits read))) (c .negated .given .0 .0) (c .negated .given .0 .1 .0) taken
-  lit = rw (literal-part (text (fits read)) (weight read)) at
-      (subst (LiteralSays _) (c .negated .given .1) (c .before .before .plain-literal .ensures))
+  lit : LiteralHere (behind (text (fits (read lits)))) (c .negated .given .0 .0) (c .negated .given .0 .1 .0) taken
+  lit = literal-here _ _ _ _ (ap saidLiteral (sym (c .negated .given .1)) ∙ said lits)
 
-  ends : gap read + taken + 2 ≤ 16
-  ends = omega (arith, weight read .part .short, lit .part .short)
+  ends : gap (read lits) + taken + 2 ≤ 16
+  ends =
+      let w = read lits in
+      let f = fits w in
+      omega (arith, gap-short (text f) (weight w), long-short (text f) (weight w) _ (long f) (first f) lit)
 
 returns : tie.Need-returns
 returns c = too-short _ (now (c .before .before .args .s)) (c .if1 .taken)
@@ -72,11 +82,10 @@ returns-3 : tie.Need-returns-3
 returns-3 c =
     let w = c .before .before in
     let f = w .before in
-    no-weight _ (text f) (long f) (omega (arith, f .if2 .left))
-    (subst (WeightSays (text f)) (c .enum-told .given .1) (w .plain-weight .ensures))
+    no-weight _ (text f) (long f) (first f) (ap saidWeight (sym (c .enum-told .given .1)) ∙ w .plain-weight .ensures)
 
 add-plain-literal : tie.Need-add-plain-literal
-add-plain-literal c = omega (arith, weight (c .before) .part .short)
+add-plain-literal c = let w = c .before in omega (arith, gap-short (text (fits w)) (weight w))
 
 sub-plain-literal : tie.Need-sub-plain-literal
 sub-plain-literal c = omega (arith, room (c .before))
@@ -88,10 +97,7 @@ part-plain-literal-end : tie.Need-part-plain-literal-end
 part-plain-literal-end c = search needs
 
 plain-literal-requires : tie.Need-plain-literal-requires
-plain-literal-requires c κs =
-    let w = c .before .before in
-    let s = text (fits w) in
-    rw (part-is s (gap w + 1), length-drop (gap w + 1) s) (omega (arith, room w))
+plain-literal-requires c κs = search needs
 
 enum-known-negated : tie.Need-enum-known-negated
 enum-known-negated c = search needs
@@ -102,10 +108,9 @@ enum-told-2 c = search needs
 returns-4 : tie.Need-returns-4
 returns-4 c =
     let l = c .before .before in
-    let w = l .before .before .before in
+    let w = read l in
     let f = fits w in
-    no-literal _ (text f) (long f) (omega (arith, f .if2 .left))
-    (rw (literal-part (text f) (weight w)) at (subst (LiteralSays _) (c .enum-told2 .given .1) (l .plain-literal .ensures)))
+    no-literal (text f) (weight w) _ (long f) (first f) (ap saidLiteral (sym (c .enum-told2 .given .1)) ∙ said l)
 
 add-taken : tie.Need-add-taken
 add-taken c = omega (arith, ends (c .before))
@@ -113,44 +118,24 @@ add-taken c = omega (arith, ends (c .before))
 add-taken-2 : tie.Need-add-taken-2
 add-taken-2 c = omega (arith, ends (c .before))
 
-is-spaced-requires : tie.Need-is-spaced-requires
-is-spaced-requires c κs =
-    let w = read (c .before) in
-    (omega (arith, room w), omega arith, omega (arith, ends (c .before), long (fits w)))
+shared-slice-read-if3 : tie.Need-shared-slice-read-if3
+shared-slice-read-if3 c =
+    let l = c .before .before in
+    omega (arith, ends l, long (fits (read (lits l))))
 
 returns-5 : tie.Need-returns-5
 returns-5 c =
     let l = c .before .before .before in
-    let f = fits (read l) in
-    not-spaced (text f) (weight (read l)) (lit l) _ (long f) (omega (arith, f .if2 .left))
-    (sym (c .before .is-spaced .ensures) ∙ not-true _ (c .if3 .taken))
+    let w = read (lits l) in
+    let f = fits w in
+    two-blanks (text f) (weight w) _ (long f) (first f) (lit l) (c .if3 .taken)
 
 returns-6 : tie.Need-returns-6
 returns-6 c =
-    let l = c .before .before .before .before in
-    let f = fits (read l) in
-    no-number (text f) (weight (read l)) (lit l) _ (long f) (omega (arith, f .if2 .left))
-    (sym (c .before .before .is-spaced .ensures) ∙ not-false _ (c .before .if3 .left)) (c .if4 .taken)
-
-lane-value-requires : tie.Need-lane-value-requires
-lane-value-requires c κs = search needs
-
-lane-value-requires-2 : tie.Need-lane-value-requires-2
-lane-value-requires-2 c κs = search needs
-
-returns-7 : tie.Need-returns-7
-returns-7 c =
-    let n = c .before .before in
-    let d = n .before .before in
-    let l = d .before .before in
-    let f = fits (read l) in
-    let variable = l .negated .given .0 .1 .0 in
-    let some : 0 < variable = omega (arith, n .if4 .left) in
-    let small : variable < 2 ^ 64 = omega (arith, d .before .known-told2 .given) in
-    plain-found (text f) (weight (read l)) (lit l) _ (long f) (omega (arith, f .if2 .left))
-    (sym (d .is-spaced .ensures) ∙ not-false _ (n .before .if3 .left)) _ refl (c .before .lane-value .ensures) refl
-    (c .lane-value2 .ensures)
-    (lane-positive variable small some)
+    let l = c .before .before .before in
+    let w = read (lits l) in
+    let f = fits w in
+    plain-found (text f) (weight w) _ (long f) (first f) (lit l) _ refl refl refl refl (omega (arith, c .if3 .left))
 
 pub plain-term-spec : {M : Type 1} → statement M
 plain-term-spec =
@@ -172,9 +157,6 @@ plain-term-spec =
     returns-4
     add-taken
     add-taken-2
-    is-spaced-requires
+    shared-slice-read-if3
     returns-5
-    returns-6
-    lane-value-requires
-    lane-value-requires-2
-    returns-7)
+    returns-6)

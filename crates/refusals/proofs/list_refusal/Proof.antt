@@ -6,7 +6,7 @@ use lib.ListN.{length}
 use denote.Ref.{now}
 use Rattle.definitions.specs.Refusal.{refusal, accept}
 use Rattle.definitions.specs.House.{refusedLine}
-use Rattle.definitions.proofs.Puts.{put-at-fits, put-in-fits, put-at-full, put-in-full}
+use Rattle.laws.proofs.Puts.{put-at-fits, put-in-fits, put-at-full, put-in-full}
 use borrow.Author.Needs.{needs}
 use Rattle.refusals.proofs.list_refusal.Statement.{statement}
 use Rattle.refusals.proofs.list_refusal.Tie as tie

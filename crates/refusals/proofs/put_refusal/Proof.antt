@@ -8,7 +8,7 @@ use denote.Ref.{now}
 use Rattle.definitions.specs.Bytes.{lf}
 use Rattle.definitions.specs.Number.{decimal}
 use Rattle.definitions.specs.House.{field, refusedLine}
-use Rattle.definitions.proofs.Puts.{Puts, front-room, rest-room, puts-then, puts-byte, puts-length}
+use Rattle.laws.proofs.Puts.{Puts, front-room, rest-room, puts-then, puts-byte, puts-length}
 use Rattle.puts.proofs.Lands.{lands}
 use borrow.Author.Needs.{needs}
 use Rattle.puts.proofs.Lands.{lands}

@@ -11,8 +11,8 @@ use mir.Facts.{toZ-ofZ}
 use Rattle.definitions.specs.Limits.{weightLimit}
 use Rattle.definitions.specs.Refusal.{accept}
 use Rattle.definitions.specs.Meaning.{assigned}
-use Rattle.columns.specs.Parts.{codesIndexed, weightSizes}
-use Rattle.columns.proofs.Terms.{sizes-on}
+use Rattle.term_checks.specs.Parts.{codesIndexed, weightSizes}
+use Rattle.term_checks.proofs.Terms.{sizes-on}
 use Rattle.assigned.specs.Parts.{hasBy, codesCovered}
 use Rattle.assigned.proofs.Known.{covered-within}
 use Rattle.summed.proofs.Orders.{sums-11, sums-8, sums-12, sums-up}

@@ -104,7 +104,7 @@ part-walk-plain-end c = search needs
 walk-plain-requires : tie.Need-walk-plain-requires Inv-loop μ-loop
 walk-plain-requires c κs =
     let t = c .before .before .before in
-    run-room (t .loop .inv) (omega (arith, t .before .before .before .good))
+    (run-room (t .loop .inv) (omega (arith, t .before .before .before .good)), omega (arith, t .loop .inv .summing .sized))
 
 add-at : tie.Need-add-at Inv-loop μ-loop
 add-at c = omega (arith, passed c .summing .stands .within, start c .good)

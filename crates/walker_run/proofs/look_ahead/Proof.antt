@@ -51,9 +51,9 @@ use Rattle.held.proofs.new.Met as new-thm
 use Rattle.held.proofs.moved.Symbol as moved-def
 use Rattle.held.proofs.moved.Symbol.{name as #moved}
 use Rattle.held.proofs.moved.Met as moved-thm
-use Rattle.held.proofs.step.Symbol as step-def
-use Rattle.held.proofs.step.Symbol.{name as #step}
-use Rattle.held.proofs.step.Met as step-thm
+use Rattle.held_steps.proofs.step.Symbol as step-def
+use Rattle.held_steps.proofs.step.Symbol.{name as #step}
+use Rattle.held_steps.proofs.step.Met as step-thm
 use Rattle.walker_run.proofs.Calls.{New, Moved, Step, Held, Own, sliceOf, File, typed, to-new, asks-new, gives-new, to-moved}
 use Rattle.walker_run.proofs.Calls.{asks-moved, gives-moved, to-step, asks-step, gives-step}
 use Rattle.walker_run.proofs.look_ahead.Key.{name as #look-ahead}
@@ -166,4 +166,4 @@ look-ahead-spec 𝓤 H 𝓜 𝓖 𝓡 =
     (look-ahead-meets 𝓤 H (𝓖 .A) (givenOf 𝓤 H 𝓜 𝓖) (𝓜 .mem) (𝓡 .run) (tablesOf 𝓤 H 𝓜 (tables 𝓤 H 𝓜 𝓡 code.env))
     (cited 𝓤 H (New 𝓤 H (𝓖 .A) (𝓜 .mem) (𝓡 .run)) 𝓜 𝓡 code.env #new new-def.routine code.calls-held·new (new-thm.met 𝓤 H 𝓜 𝓖 𝓡))
     (cited 𝓤 H (Moved 𝓤 H (𝓖 .A) (𝓜 .mem) (𝓡 .run)) 𝓜 𝓡 code.env #moved moved-def.routine code.calls-held·moved (moved-thm.met 𝓤 H 𝓜 𝓖 𝓡))
-    (cited 𝓤 H (Step 𝓤 H (𝓖 .A) (𝓜 .mem) (𝓡 .run)) 𝓜 𝓡 code.env #step step-def.routine code.calls-held·step (step-thm.met 𝓤 H 𝓜 𝓖 𝓡)))
+    (cited 𝓤 H (Step 𝓤 H (𝓖 .A) (𝓜 .mem) (𝓡 .run)) 𝓜 𝓡 code.env #step step-def.routine code.calls-held-steps·step (step-thm.met 𝓤 H 𝓜 𝓖 𝓡)))

@@ -58,10 +58,10 @@ use Rattle.held.proofs.new.Met as new-thm
 use Rattle.held.proofs.moved.Symbol as moved-def
 use Rattle.held.proofs.moved.Symbol.{name as #moved}
 use Rattle.held.proofs.moved.Met as moved-thm
-use Rattle.held.proofs.fill as fill
-use Rattle.held.proofs.fill.Symbol as fill-def
-use Rattle.held.proofs.fill.Symbol.{name as #fill}
-use Rattle.held.proofs.fill.Met as fill-thm
+use Rattle.held_fills.proofs.fill as fill
+use Rattle.held_fills.proofs.fill.Symbol as fill-def
+use Rattle.held_fills.proofs.fill.Symbol.{name as #fill}
+use Rattle.held_fills.proofs.fill.Met as fill-thm
 use Rattle.walker_run.proofs.Calls.{New, Moved, Held, Own, sliceOf, File, typed, to-new, asks-new, gives-new, to-moved}
 use Rattle.walker_run.proofs.Calls.{asks-moved, gives-moved}
 use Rattle.walker_run.proofs.terms_at.Key.{name as #terms-at}
@@ -277,4 +277,4 @@ terms-at-spec 𝓤 H 𝓜 𝓖 𝓡 =
     (terms-at-meets 𝓤 H (𝓖 .A) (givenOf 𝓤 H 𝓜 𝓖) (𝓜 .mem) (𝓡 .run) (tablesOf 𝓤 H 𝓜 (tables 𝓤 H 𝓜 𝓡 code.env))
     (cited 𝓤 H (New 𝓤 H (𝓖 .A) (𝓜 .mem) (𝓡 .run)) 𝓜 𝓡 code.env #new new-def.routine code.calls-held·new (new-thm.met 𝓤 H 𝓜 𝓖 𝓡))
     (cited 𝓤 H (Moved 𝓤 H (𝓖 .A) (𝓜 .mem) (𝓡 .run)) 𝓜 𝓡 code.env #moved moved-def.routine code.calls-held·moved (moved-thm.met 𝓤 H 𝓜 𝓖 𝓡))
-    (cited 𝓤 H (Fill 𝓤 H (𝓖 .A) (𝓜 .mem) (𝓡 .run)) 𝓜 𝓡 code.env #fill fill-def.routine code.calls-held·fill (fill-thm.met 𝓤 H 𝓜 𝓖 𝓡)))
+    (cited 𝓤 H (Fill 𝓤 H (𝓖 .A) (𝓜 .mem) (𝓡 .run)) 𝓜 𝓡 code.env #fill fill-def.routine code.calls-held-fills·fill (fill-thm.met 𝓤 H 𝓜 𝓖 𝓡)))

@@ -50,9 +50,9 @@ use Rattle.walker.proofs.steps.Stepped.Laws as S′
 use Rattle.held.proofs.new.Symbol as new-def
 use Rattle.held.proofs.new.Symbol.{name as #new}
 use Rattle.held.proofs.new.Met as new-thm
-use Rattle.held.proofs.next.Symbol as next-def
-use Rattle.held.proofs.next.Symbol.{name as #next}
-use Rattle.held.proofs.next.Met as next-thm
+use Rattle.held_steps.proofs.next.Symbol as next-def
+use Rattle.held_steps.proofs.next.Symbol.{name as #next}
+use Rattle.held_steps.proofs.next.Met as next-thm
 use Rattle.held.proofs.at.Symbol as at-def
 use Rattle.held.proofs.at.Symbol.{name as #at}
 use Rattle.held.proofs.at.Met as at-thm
@@ -221,5 +221,5 @@ walk-two-spec 𝓤 H 𝓜 𝓖 𝓡 =
     (tables 𝓤 H 𝓜 𝓡 code.env .C) (tables 𝓤 H 𝓜 𝓡 code.env .Λ) #walk-two code.function (code.unfolded 𝓤 H 𝓜 𝓡)
     (walk-two-meets 𝓤 H (𝓖 .A) (givenOf 𝓤 H 𝓜 𝓖) (𝓜 .mem) (𝓡 .run) (tablesOf 𝓤 H 𝓜 (tables 𝓤 H 𝓜 𝓡 code.env))
     (cited 𝓤 H (New 𝓤 H (𝓖 .A) (𝓜 .mem) (𝓡 .run)) 𝓜 𝓡 code.env #new new-def.routine code.calls-held·new (new-thm.met 𝓤 H 𝓜 𝓖 𝓡))
-    (cited 𝓤 H (Next 𝓤 H (𝓖 .A) (𝓜 .mem) (𝓡 .run)) 𝓜 𝓡 code.env #next next-def.routine code.calls-held·next (next-thm.met 𝓤 H 𝓜 𝓖 𝓡))
+    (cited 𝓤 H (Next 𝓤 H (𝓖 .A) (𝓜 .mem) (𝓡 .run)) 𝓜 𝓡 code.env #next next-def.routine code.calls-held-steps·next (next-thm.met 𝓤 H 𝓜 𝓖 𝓡))
     (cited 𝓤 H (At 𝓤 H (𝓖 .A) (𝓜 .mem) (𝓡 .run)) 𝓜 𝓡 code.env #at at-def.routine code.calls-held·at (at-thm.met 𝓤 H 𝓜 𝓖 𝓡)))

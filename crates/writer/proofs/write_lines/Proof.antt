@@ -10,10 +10,10 @@ use mir.Facts.{toZ-ofZ}
 use denote.Ref.{now}
 use Rattle.definitions.specs.Table.{Table, table, rowRoom}
 use Rattle.definitions.specs.declared.Entry.{Entry}
-use Rattle.columns.proofs.Terms.{entryAt}
+use Rattle.columns.proofs.Entries.{entryAt}
 use Rattle.printed.specs.Rows.{entryOf, onColumns}
 use Rattle.writer.specs.Entries.{entryText}
-use Rattle.definitions.proofs.Puts.{puts-as}
+use Rattle.laws.proofs.Puts.{puts-as}
 use Rattle.writer.proofs.Lining.{ready-as, Lining, lining-none, lining-ready, lining-more, lining-all}
 use Rattle.writer.proofs.write_lines.Statement.{statement}
 use Rattle.writer.proofs.write_lines.Tie as tie

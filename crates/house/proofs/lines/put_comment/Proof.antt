@@ -7,7 +7,7 @@ use lib.ListN.{length, length-set, length-append}
 use denote.Ref.{now}
 use Rattle.definitions.specs.Number.{decimal}
 use Rattle.definitions.specs.House.{field}
-use Rattle.definitions.proofs.Puts.{Puts, puts-length, byte-then, then-byte}
+use Rattle.laws.proofs.Puts.{Puts, puts-length, byte-then, then-byte}
 use Rattle.puts.proofs.Lands.{lands}
 use borrow.Author.Needs.{needs}
 use Rattle.house.proofs.lines.put_comment.Statement.{statement}

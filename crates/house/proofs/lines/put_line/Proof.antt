@@ -13,7 +13,7 @@ use Rattle.definitions.specs.Number.{integerText}
 use Rattle.definitions.specs.Row.{row, rowOf}
 use Rattle.definitions.specs.Table.{termsOn}
 use Rattle.definitions.specs.House.{termFields, houseLine}
-use Rattle.definitions.proofs.Puts.{Puts, front-room, rest-room, puts-as, puts-then, puts-byte, puts-length}
+use Rattle.laws.proofs.Puts.{Puts, front-room, rest-room, puts-as, puts-then, puts-byte, puts-length}
 use Rattle.columns.specs.Kinds.{readKind}
 use Rattle.puts.proofs.Lands.{lands}
 use Rattle.house_lengths.specs.Words.{wordField}

@@ -5,7 +5,7 @@ use borrow.Author.Needs.{sfits-of}
 use mir.Facts.{toZ-ofZ}
 use denote.Ref.{now}
 use Rattle.definitions.specs.Table.{Table, table, rowRoom}
-use Rattle.definitions.proofs.Puts.{puts-length}
+use Rattle.laws.proofs.Puts.{puts-length}
 use Rattle.house.proofs.Rows.{Putting, putting-none, putting-ready, putting-more, putting-all}
 use Rattle.house.proofs.lines.put_rows.Statement.{statement}
 use Rattle.house.proofs.lines.put_rows.Tie as tie

@@ -7,7 +7,7 @@ use mir.Facts.{toZ-ofZ}
 use denote.Ref.{now}
 use Rattle.definitions.specs.Number.{integerText}
 use Rattle.definitions.specs.House.{field}
-use Rattle.definitions.proofs.Puts.{Puts, puts-length, puts-then, byte-then}
+use Rattle.laws.proofs.Puts.{Puts, puts-length, puts-then, byte-then}
 use Rattle.house_lengths.specs.Words.{literalWords}
 use Rattle.house_lengths.proofs.Fields.{words-length}
 use Rattle.puts.proofs.Lands.{lands}

@@ -6,7 +6,7 @@ use Prim.Native.Nat.{_+_, _≤_}
 use lib.ListN.{length, length-set}
 use denote.Ref.{now}
 use Rattle.definitions.specs.Number.{decimal}
-use Rattle.definitions.proofs.Puts.{byte-then}
+use Rattle.laws.proofs.Puts.{byte-then}
 use Rattle.house_lengths.specs.Words.{literalWords}
 use Rattle.puts.proofs.Lands.{lands}
 use borrow.Author.Needs.{needs}

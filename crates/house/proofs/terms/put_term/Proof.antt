@@ -8,10 +8,11 @@ use denote.Ref.{now}
 use Rattle.definitions.specs.Literal.{indexOf, negated, fileNumber}
 use Rattle.definitions.specs.Row.{term}
 use Rattle.definitions.specs.House.{termFields}
-use Rattle.definitions.proofs.Puts.{puts-as}
+use Rattle.laws.proofs.Puts.{puts-as}
 use Rattle.literals.specs.Said.{saidFileNumber}
 use Rattle.house_lengths.specs.Words.{termWords}
-use Rattle.house_lengths.proofs.Fields.{number-is, no-number, not-both, term-words}
+use Rattle.literals.proofs.Numbered.{number-is, no-number}
+use Rattle.house_lengths.proofs.Fields.{not-both, term-words}
 use borrow.Author.Needs.{needs}
 use Rattle.house.proofs.terms.put_term.Statement.{statement}
 use Rattle.house.proofs.terms.put_term.Tie as tie

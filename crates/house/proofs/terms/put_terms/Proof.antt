@@ -12,7 +12,7 @@ use mir.Facts.{toZ-ofZ}
 use denote.Ref.{now}
 use Rattle.definitions.specs.Row.{term}
 use Rattle.definitions.specs.House.{termFields}
-use Rattle.definitions.proofs.Puts.{Puts, puts-none, puts-then, puts-as, puts-length}
+use Rattle.laws.proofs.Puts.{Puts, puts-none, puts-then, puts-as, puts-length}
 use Rattle.house.specs.Ready.{TermReady}
 use Rattle.house_measures.proofs.TermsWalk.{TermsAt, terms-none, terms-more, terms-within, terms-number, terms-all}
 use Rattle.house.proofs.terms.put_terms.Statement.{statement}

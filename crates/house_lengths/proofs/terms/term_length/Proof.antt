@@ -3,7 +3,8 @@ use mathlib.Core.Path.{_≡_, ap, _∙_}
 use mir.Facts.{toZ-ofZ}
 use Rattle.definitions.specs.Literal.{indexOf, fileNumber}
 use Rattle.literals.specs.Said.{saidFileNumber}
-use Rattle.house_lengths.proofs.Fields.{number-is, no-number, length-numbered, length-unnumbered}
+use Rattle.literals.proofs.Numbered.{number-is, no-number}
+use Rattle.house_lengths.proofs.Fields.{length-numbered, length-unnumbered}
 use borrow.Author.Needs.{needs}
 use Rattle.house_lengths.proofs.terms.term_length.Statement.{statement}
 use Rattle.house_lengths.proofs.terms.term_length.Tie as tie

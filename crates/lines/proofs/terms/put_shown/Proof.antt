@@ -1,5 +1,5 @@
 -- `put_shown` meets its contract: the term with its file number, or nothing where it has none.
-use Rattle.shown.proofs.OneTerm.{number-is, no-number}
+use Rattle.literals.proofs.Numbered.{number-is, no-number}
 use Rattle.puts.proofs.Each.{each-none, each-as}
 use Rattle.lines.proofs.Pieces.{numbered-pieces, no-pieces}
 use borrow.Author.Needs.{needs}

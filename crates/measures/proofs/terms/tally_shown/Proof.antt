@@ -7,7 +7,7 @@ use mir.Val.{SFits}
 use mir.Facts.{toZ-ofZ}
 use Rattle.definitions.specs.Refusal.{needed}
 use Rattle.shown.specs.Sums.{sumsWith}
-use Rattle.shown.proofs.OneTerm.{number-is, no-number}
+use Rattle.literals.proofs.Numbered.{number-is, no-number}
 use Rattle.measures.proofs.Tallying.{tally-numbered, tally-unnumbered}
 use Rattle.measures.proofs.terms.tally_shown.Statement.{statement}
 use Rattle.measures.proofs.terms.tally_shown.Tie as tie

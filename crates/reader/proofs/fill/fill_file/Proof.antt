@@ -1,6 +1,6 @@
 -- `fill_file` meets its contract: what is filled so far is the invariant (proofs/FillLines.antt), and each statement
 -- adds its line and its terms.
-use Prim.Native.Nat.{ℕ, _-_}
+use Prim.Native.Nat.{ℕ, _-_, _≤_}
 use mathlib.Core.Path.{_≡_, sym, ap, _∙_}
 use mathlib.Core.List.{List}
 use native.Mathlib.Omega.{arith}
@@ -10,7 +10,6 @@ use mir.Syntax.{w64}
 use mir.Val.{SFits}
 use mir.Facts.{toZ-ofZ}
 use borrow.Rule.Slice.PartMut.{same-len-mid}
-use lib.IntN.{ℤ}
 use lib.ListN.{length, drop}
 use Rattle.definitions.specs.Table.{Table, table}
 use Rattle.definitions.specs.Walk.{item}
@@ -18,9 +17,9 @@ use Rattle.definitions.proofs.Parts.{part-is}
 use Rattle.definitions.specs.declared.Entry.{Entry}
 use Rattle.statements.specs.Said.{saidStatement}
 use Rattle.statements.specs.Walked.{StatementWalked}
-use Rattle.definitions.proofs.Columns.{rest-of}
-use Rattle.reader.proofs.FillLines.{Good, good-of, Fills, fills-start, Lengths, fills-lengths, fills-done, LineMoves}
-use Rattle.reader.proofs.FillLines.{fills-moves, fills-more}
+use Rattle.definitions.proofs.Columns.{rest-of, Lengths}
+use Rattle.reader.proofs.FillLines.{Good, good-of, Fills, fills-start, fills-lengths, fills-heavy, fills-known, fills-done}
+use Rattle.reader.proofs.FillLines.{LineMoves, fills-moves, fills-more}
 use Rattle.reader.proofs.fill.fill_file.Statement.{statement}
 use Rattle.reader.proofs.fill.fill_file.Tie as tie
 
@@ -54,8 +53,17 @@ module _ (c : tie.At-loop Inv-loop μ-loop) where
   good : Good (start .args .options) text lent
   good = good-of (start .args .options) text lent (start .pre .given) (start .pre .reads)
 
-  abbrev lengths : Lengths _ _ _ good _ _ _ _ (c .loop .inv)
+  abbrev filledSo : Table
+  filledSo = table (c .loop .kinds) (c .loop .firsts) (c .loop .counts) (c .loop .bounds) (c .loop .weights) (c .loop .literals)
+
+  lengths : Lengths filledSo lent
   lengths = fills-lengths _ _ _ good _ _ _ _ (c .loop .inv)
+
+  heavy : c .loop .term ≤ length (lent .weights)
+  heavy = fills-heavy _ _ _ good _ _ _ _ (c .loop .inv)
+
+  known : c .loop .term ≤ length (lent .literals)
+  known = fills-known _ _ _ good _ _ _ _ (c .loop .inv)
 
 -- the statement there has filled its terms
 module _ (c : tie.After-walk-statement Inv-loop μ-loop) where
@@ -103,25 +111,25 @@ part-walk-statement-end : tie.Need-part-walk-statement-end Inv-loop μ-loop
 part-walk-statement-end c = search needs
 
 mul-walk-statement : tie.Need-mul-walk-statement Inv-loop μ-loop
-mul-walk-statement c = omega (arith, lengths (c .before) .heavy, start (c .before) .good)
+mul-walk-statement c = omega (arith, heavy (c .before), start (c .before) .good)
 
 sub-walk-statement-2 : tie.Need-sub-walk-statement-2 Inv-loop μ-loop
-sub-walk-statement-2 c = let l = lengths (c .before) in omega arith
+sub-walk-statement-2 c = omega (arith, lengths (c .before) .weights, heavy (c .before))
 
 part-walk-statement-start-2 : tie.Need-part-walk-statement-start-2 Inv-loop μ-loop
-part-walk-statement-start-2 c = let l = lengths (c .before) in omega arith
+part-walk-statement-start-2 c = omega (arith, lengths (c .before) .weights, heavy (c .before))
 
 part-walk-statement-end-2 : tie.Need-part-walk-statement-end-2 Inv-loop μ-loop
 part-walk-statement-end-2 c = search needs
 
 mul-walk-statement-2 : tie.Need-mul-walk-statement-2 Inv-loop μ-loop
-mul-walk-statement-2 c = omega (arith, lengths (c .before .before) .known, start (c .before .before) .good)
+mul-walk-statement-2 c = omega (arith, known (c .before .before), start (c .before .before) .good)
 
 sub-walk-statement-3 : tie.Need-sub-walk-statement-3 Inv-loop μ-loop
-sub-walk-statement-3 c = let l = lengths (c .before .before) in omega arith
+sub-walk-statement-3 c = omega (arith, lengths (c .before .before) .literals, known (c .before .before))
 
 part-walk-statement-start-3 : tie.Need-part-walk-statement-start-3 Inv-loop μ-loop
-part-walk-statement-start-3 c = let l = lengths (c .before .before) in omega arith
+part-walk-statement-start-3 c = omega (arith, lengths (c .before .before) .literals, known (c .before .before))
 
 part-walk-statement-end-3 : tie.Need-part-walk-statement-end-3 Inv-loop μ-loop
 part-walk-statement-end-3 c = search needs

@@ -12,7 +12,7 @@ use Rattle.definitions.specs.declared.Options.{Options}
 use Rattle.plain.specs.Plain.{PlainIs}
 use Rattle.sums.specs.Run.{Ran, begun}
 use Rattle.plain.specs.declared.PlainTerm.{PlainTerm}
-use Rattle.sums.proofs.Runs.{ran-kept, plain-has-byte, ran-plain, plain-there, rest-behind, rest-holds}
+use Rattle.sums.proofs.Runs.{ran-under, ran-kept, plain-has-byte, ran-plain, plain-there, rest-behind, rest-holds}
 use Rattle.sums.proofs.run.walk_plain.Statement.{statement}
 use Rattle.sums.proofs.run.walk_plain.Tie as tie
 
@@ -54,16 +54,16 @@ module _ (c : tie.After-term Inv-loop μ-loop) where
       (c .before .before .plain-term .ensures) (c .term .given .1)
 
 -- and is put and counted
-module _ (c : tie.After-add-size Inv-loop μ-loop) where
+module _ (c : tie.After-add-plain Inv-loop μ-loop) where
   abbrev put : tie.After-put-plain Inv-loop μ-loop
-  put = c .before .before .before .before .before
+  put = c .before .before .before .before
 
   abbrev here : tie.After-term Inv-loop μ-loop
   here = put .before .before .before .before
 
-  next : RanTo (turn here) (turn here .loop .at + bytes here) (turn here .loop .terms + 1) (c .add-size .result)
+  next : RanTo (turn here) (turn here .loop .at + bytes here) (turn here .loop .terms + 1) (c .add-plain .result)
       (put .put-plain .last .0) (put .put-plain .last .1 .0)
-  next = ran-plain (turn here .loop .inv .1) (plain here) (c .add-size .ensures) (put .put-plain .ensures)
+  next = ran-plain (turn here .loop .inv .1) (plain here) (c .add-plain .ensures) (put .put-plain .ensures)
 
   held : bytes here ≤ length (now (turn here .loop .rest))
   held = rest-holds (text (turn here)) (turn here .loop .at) (bytes here) (turn here .loop .inv .0) (ran-kept next .within)
@@ -92,14 +92,13 @@ returns c = c .before .before .before .loop .inv .1
 put-plain-requires : tie.Need-put-plain-requires Inv-loop μ-loop
 put-plain-requires c κs = plain (c .before .before .before) .fits
 
-cast-add-size : tie.Need-cast-add-size Inv-loop μ-loop
-cast-add-size c = record { sfits = omega (arith, plain (c .before .before .before .before .before .before .before .before) .fits .size) }
-
-add-size-requires : tie.Need-add-size-requires Inv-loop μ-loop
-add-size-requires c κs = search needs
+add-plain-requires : tie.Need-add-plain-requires Inv-loop μ-loop
+add-plain-requires c κs =
+    let h = c .before .before .before .before .before .before .before in
+    (ran-under (start (turn h) .pre .1) (turn h .loop .inv .1), plain h .fits .size)
 
 add-terms : tie.Need-add-terms Inv-loop μ-loop
-add-terms c = omega (arith, ran-kept (next c) .within, ran-kept (next c) .fewer, start (turn (here c)) .pre)
+add-terms c = omega (arith, ran-kept (next c) .within, ran-kept (next c) .fewer, start (turn (here c)) .pre .0)
 
 add-at : tie.Need-add-at Inv-loop μ-loop
 add-at c = omega (arith, ran-kept (next c) .within, start (turn (here c)) .good)
@@ -136,8 +135,7 @@ walk-plain-spec =
     same-length-2
     returns
     put-plain-requires
-    cast-add-size
-    add-size-requires
+    add-plain-requires
     add-terms
     add-at
     sub-rest

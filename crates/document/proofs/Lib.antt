@@ -1,0 +1,15 @@
+pub mod OpbDocument
+pub mod WrittenDocument
+pub mod Needed
+pub mod DocumentTerms
+pub mod DocumentStatements
+pub mod DocumentSample
+pub mod DocumentLines
+pub mod DocumentWrittenTerms
+pub mod DocumentWrittenStatements
+pub mod DocumentWrittenFile
+pub mod DocumentWrittenGoals
+pub mod DocumentWrittenLines
+pub mod WrittenSample
+pub mod OneConstraint
+pub mod OutsideDocument

@@ -1,0 +1,3 @@
+pub mod Document
+pub mod DocumentRead
+pub mod DocumentWritten

@@ -1,0 +1,11 @@
+pub mod Lanes
+pub mod LaneValues
+pub mod DigitLanes
+pub mod Gaps
+pub mod Leading
+pub mod PlainLanes
+pub mod PartTests
+pub mod PlainParts
+pub mod PartAnswers
+pub mod OneAnswer
+pub mod Examples
