@@ -1,6 +1,6 @@
 -- Do a row, its normal form and its printed form mean the same? Every assignment finds them alike: whether they hold,
 -- and an objective's value.
-use Prim.Native.Nat.{ℕ, suc, _+_, _-_, _/_, _%_}
+use Prim.Native.Nat.{ℕ, suc, _-_, _/_, _%_}
 use mathlib.Core.Path.{_≡_, refl, sym, ap, ap₂, _∙_}
 use mathlib.Core.Bool.{Bool, true, false, cond, not, _&&_}
 use mathlib.Core.List.{List, [], _∷_, map}

@@ -2,7 +2,7 @@
 -- refused one is broken at a place that lies in it, and all before that place is whole statements and blanks. So no
 -- byte is left out. (specs/Pieces.antt has the words.)
 use Prim.Native.Nat.{ℕ, _+_, _≤_, _<_}
-use mathlib.Core.Path.{_≡_, refl, sym, ap, _∙_}
+use mathlib.Core.Path.{_≡_, sym, ap, _∙_}
 use mathlib.Core.Logic.{_⊎_, inl, inr, ⊎-elim}
 use mathlib.Core.List.{List, _++_}
 use native.Mathlib.Omega.{arith}

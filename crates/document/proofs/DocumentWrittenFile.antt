@@ -1,6 +1,6 @@
 -- Which file of the document is a list of items in the document's order? Its text, but for the objective's line, is
 -- what is written; it is well formed, and means what was asked for.
-use Prim.Native.Nat.{ℕ, _+_, _≤_}
+use Prim.Native.Nat.{ℕ, _≤_}
 use mathlib.Core.Path.{_≡_, refl, sym, ap, ap₂, subst, _∙_}
 use mathlib.Core.Bool.{true}
 use mathlib.Core.List.{List, [], _∷_, _++_, map, append-assoc, append-nil}

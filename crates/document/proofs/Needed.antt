@@ -1,6 +1,6 @@
 -- Is what the theorems ask for needed? An example, or a law, for each hypothesis of `there-and-back`, `document-read`
 -- and `written-document` shows what goes wrong without it.
-use Prim.Native.Nat.{ℕ, _+_, _-_, _<_}
+use Prim.Native.Nat.{ℕ, _<_}
 use Prim.Native.String as S
 use mathlib.Core.Path.{_≡_, refl, subst}
 use mathlib.Core.Bool.{true, false}

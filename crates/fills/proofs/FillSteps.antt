@@ -20,11 +20,11 @@ use Rattle.definitions.specs.declared.Entry.{Entry}
 use Rattle.definitions.specs.declared.Length.{Length}
 use Rattle.definitions.specs.declared.Length.the-variants.{Refused, Is}
 use Rattle.definitions.specs.declared.Options.{Options}
-use Rattle.definitions.proofs.SameAnswers.{Forward, step-forward}
+use Rattle.definitions.proofs.SameAnswers.{step-forward}
 use Rattle.definitions.proofs.Truths.{never}
 use Rattle.statements.proofs.Briefs.{terms-in-file}
 use Rattle.walker.specs.Said.{briefStepped}
-use Rattle.walker.proofs.Stepping.{brief-ended, brief-stopped, SteppedIs, brief-stepped}
+use Rattle.walker.proofs.Stepping.{brief-ended, brief-stopped, brief-stepped}
 use Rattle.fills.specs.FillsTerms.{FillsTerms}
 use Rattle.fills.proofs.FillTerms.{refusing, no-terms}
 

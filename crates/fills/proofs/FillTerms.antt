@@ -1,6 +1,6 @@
 -- What filling one statement's terms answers and leaves, case by case: the end, the statement's own refusal, 10, and
 -- the terms.
-use Prim.Native.Nat.{ℕ, _+_, _≤_, _<_, _^_}
+use Prim.Native.Nat.{ℕ, _≤_, _<_, _^_}
 use mathlib.Core.Path.{_≡_, refl, sym, ap, subst, _∙_}
 use mathlib.Core.List.{List, [], map}
 use native.Mathlib.Omega.{arith}
@@ -14,18 +14,12 @@ use Rattle.definitions.specs.Walk.{Step, stop, bad, item}
 use Rattle.definitions.specs.Lists.{over}
 use Rattle.definitions.specs.Row.{Term, weightOf, literalOf, Line, termsOf}
 use Rattle.definitions.specs.Table.{Outcome, refused, accepted}
-use Rattle.definitions.specs.Text.{inFile}
 use Rattle.definitions.specs.Stepping.{steppedBy, termsFitted, termsBy, columnsRoom, termsKept, termsCounted}
 use Rattle.statements.specs.Brief.{briefStep}
 use Rattle.sums.specs.Walked.{TermsFilled, TermsPut}
 use Rattle.fills.specs.FillsTerms.{FillsTerms}
-use Rattle.statements.specs.declared.row.StatementRead.{StatementRead}
 use Rattle.definitions.specs.declared.Length.the-variants.{Refused, Is}
-use Rattle.definitions.proofs.Truths.{never}
-use Rattle.statements.specs.Met.{statementMet}
-use Rattle.statements.specs.Walked.{StatementWalked}
 use Rattle.statements.proofs.Briefs.{brief-stop, brief-bad, LineIs, terms-in-file}
-use Rattle.statements.proofs.MetTerms.{statement-met}
 
 needed-word : (n : ℕ) → n < 2 ^ 64 → needed n ≡ n
 unfolding needed

@@ -3,7 +3,6 @@
 use held::Walker;
 use walker::Stepped;
 ghost use mathlib.Core.Path.{_≡_};
-ghost use Rattle.definitions.specs.Stepping.{stepAt};
 ghost use Rattle.walker.specs.Said.{saidStepped, briefStepped};
 ghost use Rattle.held_steps.specs.Steps.{stepOf, Nexts};
 

@@ -3,14 +3,15 @@ use mathlib.Core.Path.{_≡_, sym, ap, _∙_}
 use mathlib.Core.List.{List, [], _∷_, _++_}
 use Prim.Native.Nat.{ℕ, _+_, _≤_, _<_}
 use native.Mathlib.Omega.{arith}
-use lib.ListN.{length, take, length-append}
+use lib.ListN.{length, take, drop, length-append}
 use Rattle.definitions.specs.Lists.{joined}
 use Rattle.definitions.specs.Refusal.{accept}
 use Rattle.definitions.specs.Row.{Line}
 use Rattle.definitions.specs.Table.{Table, accepted, entries}
 use Rattle.definitions.specs.House.{houseLine, listedEntry}
-use Rattle.laws.proofs.Puts.{Puts, puts-none, puts-then, puts-length, puts-as, joined-last, joined-append}
-use Rattle.laws.proofs.Puts.{RowsAt, Next, rows-none, rows-all, rows-more, rows-next}
+use Rattle.definitions.proofs.Columns.{joined-append, joined-snoc, Begins, Passed, passed-none, passed-all, passed-more}
+use Rattle.definitions.proofs.Columns.{Next, passed-next, passed-begins}
+use Rattle.laws.proofs.Puts.{Puts, puts-none, puts-then, puts-length, puts-as}
 use Rattle.columns.proofs.Entries.{entryAt}
 use Rattle.house_measures.specs.Lines.{lineOn, linesOf}
 use Rattle.house_measures.proofs.RowsWalk.{by-columns, next-entry, no-entry}
@@ -21,39 +22,50 @@ module _ (t : Table) (n : ℕ) where
   pub record Putting (first at : ℕ) (o : List ℕ) (i : ℕ) (out : List ℕ) (end : ℕ) : Type 0 where
     pub most : i ≤ n
     pub lines : List Line
-    pub rows : RowsAt (listedEntry first t) (take n (entries t)) i lines
+    pub rows : Passed (listedEntry first t) (take n (entries t)) i lines
     pub puts : Puts (joined (houseLine first) lines) at o end out
 
   pub putting-none : (first at : ℕ) (o : List ℕ) → Putting first at o 0 o at
   unfolding joined
   putting-none first at o =
-      record { most = omega arith; lines = []; rows = rows-none (listedEntry first t) (take n (entries t)); puts = puts-none at o }
+      record { most = omega arith; lines = []; rows = passed-none (listedEntry first t) (take n (entries t)); puts = puts-none at o }
 
   module _ {first at : ℕ} {o : List ℕ} (r : RowsReady first n t at o) {i : ℕ} {out : List ℕ} {end : ℕ}
       (p : Putting first at o i out end) where
     module _ (h : i < n) where
-      abbrev next : Next (listedEntry first t) (entryAt t i) (p .lines) (r .lines)
-      next = rows-next (listedEntry first t) (p .rows) (entryAt t i) (next-entry t n i h (omega (arith, r .within))) (r .lines) (r .are)
+      here : drop i (take n (entries t)) ≡ entryAt t i ∷ drop (i + 1) (take n (entries t))
+      here = next-entry t n i h (omega (arith, r .within))
 
-      whole : joined (houseLine first) (r .lines) ≡ joined (houseLine first) (p .lines) ++
-          (houseLine first (next .line) ++ joined (houseLine first) (next .rest))
-      unfolding joined
-      whole = ap (joined (houseLine first)) (next .split) ∙ joined-append (houseLine first) (p .lines) (next .line ∷ next .rest)
+      abbrev next : Next (listedEntry first t) (take n (entries t)) i (p .lines) (p .rows) (entryAt t i) here (r .lines) (r .are)
+      next = passed-next (listedEntry first t) (take n (entries t)) i (p .lines) (p .rows) (entryAt t i) here (r .lines) (r .are)
 
-      rooms : (at + (length (joined (houseLine first) (p .lines)) + length (houseLine first (next .line))) ≤ length o)
+      more : Passed (listedEntry first t) (take n (entries t)) (i + 1) (p .lines ++ (next .value ∷ []))
+      more =
+          passed-more (listedEntry first t) (take n (entries t)) i (p .lines) (p .rows) (entryAt t i) here (next .value) (next .accepts)
+
+      begins : Begins (p .lines ++ (next .value ∷ [])) (r .lines)
+      begins = passed-begins (listedEntry first t) (take n (entries t)) (i + 1) (p .lines ++ (next .value ∷ [])) more (r .lines) (r .are)
+
+      rooms : (at + (length (joined (houseLine first) (p .lines)) + length (houseLine first (next .value))) ≤ length o)
       rooms =
-          let a = joined (houseLine first) (p .lines) in
-          let b = houseLine first (next .line) in
-          let c = joined (houseLine first) (next .rest) in
-          omega (arith, r .room, ap length whole, length-append a (b ++ c), length-append b c)
+          let text = joined (houseLine first) in
+          let pre = p .lines ++ (next .value ∷ []) in
+          omega (
+            arith,
+            r .room,
+            ap length (ap text (begins .is) ∙ joined-append (houseLine first) pre (begins .rest)),
+            length-append (text pre) (text (begins .rest)),
+            ap length (joined-snoc (houseLine first) (p .lines) (next .value)),
+            length-append (text (p .lines)) (houseLine first (next .value)),
+          )
 
-      accepts : lineOn first (t .weights) (t .literals) (entryAt t i) ≡ accept (next .line)
-      accepts = sym (by-columns first t (entryAt t i)) ∙ next .is
+      accepts : lineOn first (t .weights) (t .literals) (entryAt t i) ≡ accept (next .value)
+      accepts = sym (by-columns first t (entryAt t i)) ∙ next .accepts
 
       pub putting-ready : RowReady first (t .weights) (t .literals) (entryAt t i) end out
       putting-ready =
           record {
-            line = next .line;
+            line = next .value;
             is = accepts;
             room = omega (arith, rooms, p .puts .place, puts-length (p .puts) (omega (arith, rooms)));
           }
@@ -64,16 +76,15 @@ module _ (t : Table) (n : ℕ) where
       putting-more f =
           record {
             most = omega arith;
-            lines = p .lines ++ (next .line ∷ []);
-            rows = rows-more (listedEntry first t) (p .rows) (entryAt t i) (next-entry t n i h (omega (arith, r .within)))
-                (next .line) (next .is);
+            lines = p .lines ++ (next .value ∷ []);
+            rows = more;
             puts =
-                puts-as (puts-then (p .puts) (omega (arith, rooms)) (f (next .line) accepts))
-                (sym (joined-last (houseLine first) (p .lines) (next .line)));
+                puts-as (puts-then (p .puts) (omega (arith, rooms)) (f (next .value) accepts))
+                (sym (joined-snoc (houseLine first) (p .lines) (next .value)));
           }
 
     pub putting-all : n ≤ i → (ls : List Line) → linesOf first n t ≡ accepted ls → Puts (joined (houseLine first) ls) at o end out
     putting-all h ls e =
-        let a = rows-all (listedEntry first t) (p .rows) (no-entry t n i (omega arith)) in
+        let a = passed-all (listedEntry first t) (take n (entries t)) i (p .lines) (p .rows) (no-entry t n i (omega arith)) in
         let q : p .lines ≡ ls = cc in
         puts-as (p .puts) (ap (joined (houseLine first)) q)

@@ -1,9 +1,6 @@
 -- Two answers that the contract of `measure_rows` allows are equal.
 use mathlib.Core.Path.{_≡_, sym, ap, _∙_}
-use Prim.Native.Nat.{ℕ}
-use Rattle.definitions.specs.Table.{accepted}
 use Rattle.definitions.proofs.Truths.{never}
-use Rattle.house_measures.specs.declared.rows.Size.{Size}
 use Rattle.house_measures.specs.declared.rows.Measured.{Measured}
 use Rattle.house_measures.specs.declared.rows.Measured.the-variants as measured
 use Rattle.house_measures.specs.Sizes.{Sizes, saidMeasured}

@@ -10,7 +10,8 @@ use Rattle.definitions.specs.Row.{Term, Line, termsOf}
 use Rattle.definitions.specs.Table.{Table, rowRoom, Outcome, refused, accepted, allTerms, entries, andThen}
 use Rattle.definitions.specs.declared.Entry.{Entry}
 use Rattle.definitions.specs.House.{houseLine, listedLine, listedEntry}
-use Rattle.laws.proofs.Puts.{joined-last, RowsAt, rows-none, rows-all, rows-refused, rows-more, drop-in-take}
+use Rattle.definitions.proofs.Columns.{joined-snoc, Passed, passed-none, passed-all, passed-refused, passed-more}
+use Rattle.laws.proofs.Puts.{drop-in-take}
 use Rattle.definitions.proofs.Truths.{never}
 use Rattle.columns.proofs.Entries.{entryAt, entries-count, entries-from}
 use Rattle.house_lengths.proofs.Fields.{needed-more, needed-more-yet}
@@ -55,13 +56,13 @@ module _ (t : Table) (n : ℕ) where
   -- i rows are accepted, with these terms and this length
   pub record Measures (first i : ℕ) (all : Size) : Type 0 where
     pub lines : List Line
-    pub rows : RowsAt (listedEntry first t) (take n (entries t)) i lines
+    pub rows : Passed (listedEntry first t) (take n (entries t)) i lines
     pub terms : all .terms ≡ needed (length (allTerms lines))
     pub length : all .length ≡ needed (lib.ListN.length (joined (houseLine first) lines))
 
   pub measures-none : (first : ℕ) → Measures first 0 (record { terms = 0; length = 0 })
   unfolding needed joined
-  measures-none first = record { lines = []; rows = rows-none (listedEntry first t) (take n (entries t)); terms = refl; length = refl }
+  measures-none first = record { lines = []; rows = passed-none (listedEntry first t) (take n (entries t)); terms = refl; length = refl }
 
   module _ (first i : ℕ) (all : Size) (m : Measures first i all) where
     module _ (h : i < n) (g : i < rowRoom t) where
@@ -71,7 +72,9 @@ module _ (t : Table) (n : ℕ) where
       pub measures-refused : (k : ℕ) → refuse k ≡ sizeIn first (lineOn first (t .weights) (t .literals) (entryAt t i))
           → refused (refusal k i) ≡ sizesIn first (linesOf first n t)
       measures-refused k e =
-          rw (rows-refused (listedEntry first t) (m .rows) (entryAt t i) (next-entry i h g) k (here ∙ refused-size first k _ e))
+          rw
+          (passed-refused (listedEntry first t) (take n (entries t)) i (m .lines) (m .rows) (entryAt t i) (next-entry i h g) k
+          (here ∙ refused-size first k _ e))
 
       pub measures-more : (s : Size) (p q : ℕ) → accept s ≡ sizeIn first (lineOn first (t .weights) (t .literals) (entryAt t i))
           → p ≡ needed (all .terms + s .terms) → q ≡ needed (all .length + s .length) → Measures first (i + 1)
@@ -81,20 +84,22 @@ module _ (t : Table) (n : ℕ) where
           let l = x .line in
           record {
             lines = m .lines ++ (l ∷ []);
-            rows = rows-more (listedEntry first t) (m .rows) (entryAt t i) (next-entry i h g) l (here ∙ x .is);
+            rows =
+                passed-more (listedEntry first t) (take n (entries t)) i (m .lines) (m .rows) (entryAt t i) (next-entry i h g) l
+                (here ∙ x .is);
             terms =
                 needed-more (allTerms (m .lines)) (termsOf l) (m .terms) (ap (λ (z : Size). z .terms) (x .size)) a
-                ∙ ap (λ (r : List Term). needed (length r)) (sym (joined-last termsOf (m .lines) l));
+                ∙ ap (λ (r : List Term). needed (length r)) (sym (joined-snoc termsOf (m .lines) l));
             length =
                 needed-more-yet (joined (houseLine first) (m .lines)) (houseLine first l) (m .length)
                 (ap (λ (z : Size). z .length) (x .size)) b
-                ∙ ap (λ (r : List ℕ). needed (length r)) (sym (joined-last (houseLine first) (m .lines) l));
+                ∙ ap (λ (r : List ℕ). needed (length r)) (sym (joined-snoc (houseLine first) (m .lines) l));
           }
 
     pub measures-all : (r : ℕ) → r ≡ min n (rowRoom t) → i ≤ r → r ≤ i
         → accepted (record { rows = r; all = all }) ≡ sizesIn first (linesOf first n t)
     measures-all r e h g =
-        rw (rows-all (listedEntry first t) (m .rows) (no-entry i (omega arith)))
+        rw (passed-all (listedEntry first t) (take n (entries t)) i (m .lines) (m .rows) (no-entry i (omega arith)))
         (sizes-eq (omega (arith, m .rows .count)) (m .terms) (m .length))
       where
         sizes-eq : {a b : ℕ} {x y z w : ℕ} → a ≡ b → x ≡ y → z ≡ w

@@ -1,6 +1,6 @@
 -- What is met next in a block: the items byte by byte, for the loop of `seek`, and what a token that is met means for
 -- the walk behind it.
-use Prim.Native.Nat.{ℕ, suc, _+_, _-_, _≤_, _<_}
+use Prim.Native.Nat.{ℕ, suc, _+_, _≤_, _<_}
 use mathlib.Core.Path.{_≡_, refl, ap, sym, _∙_}
 use mathlib.Core.Bool.{Bool, true, false}
 use mathlib.Core.List.{List, [], _∷_}
@@ -8,11 +8,11 @@ use native.Mathlib.Omega.{arith}
 use native.Mathlib.Numerals.{add-one}
 use borrow.Author.Tests.{eqb-true, eq-eqb, ne-eqb}
 use lib.Dec.{eqb}
-use lib.ListN.{length, getD, take, drop, length-drop, drop-of-length-le}
+use lib.ListN.{length, getD, drop, length-drop, drop-of-length-le}
 use lib.Seq.{drop-cons, drop-drop}
 use Rattle.definitions.specs.Bytes.{lf}
 use Rattle.definitions.specs.Values.{letterV, isWhite, isSolid, frontOf, Item, untagged, token, Spot, front, between, inside, itemsFrom}
-use Rattle.items.specs.Items.{Found, nothing, line, word, soughtOf, spotOf, foundFrom, textAt, endAt, onFrom}
+use Rattle.items.specs.Items.{nothing, line, word, soughtOf, spotOf, foundFrom, textAt, endAt, onFrom}
 use Rattle.items.proofs.Runs.{front-more, front-none, front-within}
 
 -- ---- one byte

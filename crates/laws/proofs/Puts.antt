@@ -1,7 +1,6 @@
--- What is left in an output that texts are put into, and what is known after some rows of a table? What the two walks
--- of a writer of lines go by. A text is put behind another, byte by byte or whole; a needed length is added up; the
--- first rows of a table are checked, and the rest are left.
-use mathlib.Core.Path.{_≡_, refl, sym, ap, _∙_}
+-- What is left in an output that texts are put into? What the two walks of a writer of lines go by: a text is put behind
+-- another, byte by byte or whole; a needed length is added up; the first rows of a table are walked, and the rest left.
+use mathlib.Core.Path.{_≡_, sym, ap, _∙_}
 use mathlib.Core.List.{List, [], _∷_, _++_, append-assoc}
 use Prim.Native.Nat.{ℕ, zero, suc, _+_, _*_, _/_, _^_, _≤_, _<_}
 use native.Mathlib.Nat.{add-zero}
@@ -14,13 +13,9 @@ use lib.IntN.{ℤ, pos, negsuc}
 use mir.Syntax.{w64}
 use mir.Val.{SFits}
 use lib.Seq.{length-take-le, take-at, drop-at, drop-drop, set-split}
-use Rattle.definitions.specs.Lists.{joined}
-use Rattle.definitions.specs.Refusal.{refusal, Checked, refuse, accept, needed}
+use Rattle.definitions.specs.Refusal.{refuse, accept, needed}
 use Rattle.definitions.specs.Number.{decimal, integerText}
 use Rattle.definitions.specs.Output.{putAt, putIn}
-use Rattle.definitions.specs.Table.{Outcome, refused, accepted, rowByRow}
-use Rattle.definitions.proofs.Columns as columns
-use Rattle.definitions.proofs.Columns.{onto, Passed, passed-none, passed-all, passed-refused, passed-more}
 use Rattle.definitions.proofs.Truths.{never}
 use Rattle.definitions.proofs.Numbers.{decimal-length-small, decimal-length-big}
 
@@ -165,54 +160,6 @@ pub number-length-most : (z : ℤ) → SFits w64 z → length (integerText z) �
 unfolding tens
 number-length-most (pos n) f = omega (arith, decimal-length-below 18 n (omega (arith, f .sfits)))
 number-length-most (negsuc n) f = omega (arith, decimal-length-below 18 (suc n) (omega (arith, f .sfits)))
-
--- ---- the texts of a list
-module _ {A B : Type 0} (f : B → List A) where
-  pub joined-append : (xs ys : List B) → joined f (xs ++ ys) ≡ joined f xs ++ joined f ys
-  joined-append = columns.joined-append f
-
-  pub joined-last : (xs : List B) (x : B) → joined f (xs ++ (x ∷ [])) ≡ joined f xs ++ f x
-  joined-last = columns.joined-snoc f
-
--- ---- row by row: Columns has the laws, here with what is known left out
-module _ {A B : Type 0} (f : A → Checked B) where
-  -- the first i of the list gave pre, and the rest are left
-  abbrev pub RowsAt : List A → ℕ → List B → Type 0
-  RowsAt l i pre = Passed f l i pre
-
-  -- among the lines bs that a list gave, pre of them before it, stands the line of a
-  pub record Next (a : A) (pre bs : List B) : Type 0 where
-    pub line : B
-    pub is : f a ≡ accept line
-    pub rest : List B
-    pub split : bs ≡ pre ++ (line ∷ rest)
-
-  pub rows-none : (l : List A) → RowsAt l 0 []
-  rows-none l = passed-none f l
-
-  module _ {l : List A} {i : ℕ} {pre : List B} (w : RowsAt l i pre) where
-    pub rows-all : drop i l ≡ [] → rowByRow f 0 l ≡ accepted pre
-    rows-all = passed-all f l i pre w
-
-    -- a is the next
-    module _ (a : A) (next : drop i l ≡ a ∷ drop (i + 1) l) where
-      pub rows-refused : (n : ℕ) → f a ≡ refuse n → rowByRow f 0 l ≡ refused (refusal n i)
-      rows-refused = passed-refused f l i pre w a next
-
-      pub rows-more : (b : B) → f a ≡ accept b → RowsAt l (i + 1) (pre ++ (b ∷ []))
-      rows-more = passed-more f l i pre w a next
-
-      pub rows-next : (bs : List B) → rowByRow f 0 l ≡ accepted bs → Next a pre bs
-      rows-next bs e = by (f a) refl
-        where
-          behind : (b : B) (o : Outcome (List B)) → f a ≡ accept b → accepted bs ≡ onto (pre ++ (b ∷ [])) o → Next a pre bs
-          behind b (refused r) q s = never cc
-          behind b (accepted cs) q s =
-              let d : bs ≡ (pre ++ (b ∷ [])) ++ cs = cc in record { line = b; is = q; rest = cs; split = d ∙ append-assoc pre (b ∷ []) cs }
-
-          by : (r : Checked B) → f a ≡ r → Next a pre bs
-          by (refuse n) q = let d = rows-refused n q in never cc
-          by (accept b) q = behind b (rowByRow f (i + 1) (drop (i + 1) l)) q (sym e ∙ rows-more b q .split)
 
 -- ---- the first n of a list
 

@@ -1,7 +1,7 @@
 -- Laws of pieces: of one term, of what stands behind the terms, and of the terms one by one.
 use Prim.Native.Nat.{ℕ, _+_, _≤_, _<_, min}
-use mathlib.Core.Path.{_≡_, refl, sym, ap, _∙_}
-use mathlib.Core.Bool.{Bool, true, false, cond}
+use mathlib.Core.Path.{_≡_, refl, _∙_}
+use mathlib.Core.Bool.{true, false}
 use mathlib.Core.List.{List, [], _∷_, _++_}
 use native.Mathlib.Omega.{arith}
 use lib.IntN.{ℤ, pos}
@@ -11,11 +11,10 @@ use Rattle.definitions.specs.Literal.{fileNumber}
 use Rattle.definitions.specs.Row.{Term, term}
 use Rattle.definitions.specs.Write.{isAccepted}
 use Rattle.puts.specs.Each.{placeBehind, putEach, LandsEach}
-use Rattle.puts.proofs.Each.{each-as, place-then, put-then}
+use Rattle.puts.proofs.Each.{place-then, put-then}
 use Rattle.shown.specs.declared.terms.Style.{Style}
 use Rattle.shown.specs.declared.terms.Shown.{Shown}
 use Rattle.shown.specs.declared.sums.Sums.{Sums}
-use Rattle.printed.specs.declared.bounds.Bound.{Bound}
 use Rattle.shown.specs.Terms.{ownTerm, ownTerms, Shows}
 use Rattle.shown.specs.Sums.{noSums, sumsWith}
 use Rattle.shown.proofs.AllTerms.{own-from, own-end}

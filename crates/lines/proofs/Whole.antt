@@ -2,7 +2,7 @@
 -- that fits, it is put.
 use Prim.Native.Nat.{ℕ, _+_, _≤_}
 use mathlib.Core.Path.{_≡_, refl, sym, ap, ap₂, _∙_}
-use mathlib.Core.Bool.{Bool, true, false, cond, not, _&&_}
+use mathlib.Core.Bool.{Bool, true, false, cond}
 use mathlib.Core.List.{List, [], _∷_, _++_, append-assoc, append-nil}
 use native.Mathlib.Omega.{arith}
 use lib.IntN.{ℤ}
@@ -17,7 +17,8 @@ use Rattle.definitions.specs.Write.{closed, isZero, remarkText, offsetWords, of
 use Rattle.definitions.specs.Write.{weighs, numbered, bounded}
 use Rattle.definitions.specs.Back.{isGoal}
 use Rattle.definitions.specs.declared.Mode.{Mode}
-use Rattle.laws.proofs.Puts.{Puts, joined-append, puts-as}
+use Rattle.definitions.proofs.Columns.{joined-append}
+use Rattle.laws.proofs.Puts.{Puts, puts-as}
 use Rattle.puts.specs.Each.{LandsEach}
 use Rattle.puts.proofs.Each.{allOf, each-puts}
 use Rattle.printed.specs.declared.kinds.Shape.{Shape}

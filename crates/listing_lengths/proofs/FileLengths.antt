@@ -19,7 +19,8 @@ use Rattle.definitions.specs.House.{houseLine, refusedLine, listing}
 use Rattle.definitions.specs.declared.Options.{Options}
 use Rattle.definitions.proofs.Walks.{At, at-start, at-stop, at-bad, at-item}
 use Rattle.definitions.proofs.Statements.{LineTaken, statement-moves, statement-taken}
-use Rattle.laws.proofs.Puts.{needed-add, joined-last, count-length-most}
+use Rattle.definitions.proofs.Columns.{joined-snoc}
+use Rattle.laws.proofs.Puts.{needed-add, count-length-most}
 use Rattle.definitions.proofs.Truths.{never}
 use Rattle.definitions.specs.declared.Entry.{Entry}
 use Rattle.columns.specs.Kinds.{termsOfKind}
@@ -139,7 +140,7 @@ module _ (o : Options) (s : List ℕ) where
             termed =
                 omega (
                   arith,
-                  ap length (joined-last termsOf (w .found) p),
+                  ap length (joined-snoc termsOf (w .found) p),
                   length-append (allTerms (w .found)) (termsOf p),
                   ap
                       length (terms-in-file at l),
@@ -148,7 +149,7 @@ module _ (o : Options) (s : List ℕ) where
                 );
             sized =
                 needed-more-yet (joined (houseLine (o .first)) (w .found)) (houseLine (o .first) p) (w .sized) j q
-                ∙ ap (λ (x : List ℕ). needed (length x)) (sym (joined-last (houseLine (o .first)) (w .found) p));
+                ∙ ap (λ (x : List ℕ). needed (length x)) (sym (joined-snoc (houseLine (o .first)) (w .found) p));
             fewer-rows = omega (arith, t .least, w .fewer-rows);
             fewer-terms = omega (arith, t .terms, terms-are, w .fewer-terms);
           }

@@ -6,7 +6,7 @@ use mathlib.Core.List.{List}
 use Prim.Native.Nat.{ℕ, _+_}
 use native.Mathlib.Omega.{arith}
 use lib.Dec.{leb}
-use lib.ListN.{length, take, drop}
+use lib.ListN.{length, take}
 use Rattle.definitions.specs.Refusal.{refusal, needed}
 use Rattle.definitions.specs.Lists.{over}
 use Rattle.definitions.specs.Output.{putIn}

@@ -11,7 +11,7 @@ use Rattle.definitions.specs.Limits.{weightLimit, inI64}
 use Rattle.definitions.specs.Refusal.{refusal, needed, Checked, refuse, accept}
 use Rattle.definitions.specs.Lists.{joined}
 use Rattle.definitions.specs.Row.{Line, termsOf}
-use Rattle.definitions.specs.Table.{Table, table, rowRoom, refused, accepted, totalsOf, entries, allTerms, andThen}
+use Rattle.definitions.specs.Table.{Table, rowRoom, refused, accepted, totalsOf, entries, allTerms, andThen}
 use Rattle.definitions.specs.declared.Entry.{Entry}
 use Rattle.definitions.specs.Normal.{normalLine, normalIn}
 use Rattle.term_checks.specs.Parts.{codesIndexed, weightSizes}

@@ -4,7 +4,6 @@
 mod fill;
 
 use definitions::Counted;
-ghost use mathlib.Core.Path.{_≡_};
 ghost use Rattle.definitions.specs.Table.{table};
 ghost use Rattle.normaliser.specs.Normalises.{Normalises};
 

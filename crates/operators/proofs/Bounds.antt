@@ -1,6 +1,6 @@
 -- Laws of bounds: a number in 64 bits is one, one below the least and one above the greatest are not, and what was
 -- compared where a bound or 8 is given.
-use Prim.Native.Nat.{ℕ, _+_, _^_, _<_}
+use Prim.Native.Nat.{_^_, _<_}
 use mathlib.Core.Path.{_≡_, refl, sym, ap, _∙_}
 use mathlib.Core.Bool.{Bool, true, false}
 use native.Mathlib.Omega.{arith}

@@ -12,7 +12,7 @@ use lib.Signed.{nonNeg}
 use Rattle.definitions.specs.Limits.{weightLimit, inI64}
 use Rattle.definitions.specs.Refusal.{refuse, accept}
 use Rattle.definitions.specs.Literal.{negated}
-use Rattle.definitions.specs.Row.{Term, weightOf, Row, rowOf, sizes}
+use Rattle.definitions.specs.Row.{Term, weightOf, rowOf, sizes}
 use Rattle.definitions.specs.Table.{andThen}
 use Rattle.definitions.specs.Normal.{moved, totalBy}
 use Rattle.definitions.specs.Write.{flipTerm, flipped, plainTerm, fall, unnegated, printed, weighs, bounded}

@@ -1,7 +1,7 @@
 -- Laws of several puts: none, one, one list of texts behind another; and where all of them fit, what is put is one
 -- text.
 use Prim.Native.Nat.{ℕ, _+_, _≤_}
-use mathlib.Core.Path.{_≡_, refl, sym, _∙_}
+use mathlib.Core.Path.{_≡_, refl, _∙_}
 use mathlib.Core.List.{List, [], _∷_, _++_}
 use lib.ListN.{length}
 use Rattle.definitions.specs.Lists.{joined}

@@ -2,14 +2,14 @@
 use Prim.Native.Nat.{ℕ, suc, _+_, _≤_, _<_}
 use mathlib.Core.Path.{_≡_, refl, sym, ap, _∙_}
 use mathlib.Core.Bool.{Bool, true, false, cond}
-use mathlib.Core.List.{List, [], _∷_, _++_}
+use mathlib.Core.List.{List, _∷_, _++_}
 use native.Mathlib.Omega.{arith}
 use native.Mathlib.Decide.{decLe}
 use native.Mathlib.Numerals.{add-one}
 use borrow.Author.Tests.{le-leb, lt-leb}
 use lib.ListN.{length, take, drop, set}
 use lib.Seq.{length-take-le, take-append-le, take-take, drop-at, set-split}
-use Rattle.definitions.specs.Output.{fitsAt, putAt, putIn}
+use Rattle.definitions.specs.Output.{fitsAt, putAt}
 use Rattle.definitions.specs.Refusal.{refuse, accept}
 use Rattle.laws.proofs.Puts.{Puts, placed, placed-length, put-in-fits, put-in-full, put-done, put-full, put-at-full}
 use Rattle.definitions.proofs.Truths.{never}

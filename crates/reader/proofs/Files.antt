@@ -10,7 +10,7 @@ use Rattle.definitions.specs.Answers.{saidCounted}
 use Rattle.definitions.specs.Limits.{fileLimit}
 use Rattle.definitions.specs.Lists.{joined, total}
 use Rattle.definitions.specs.Refusal.{refusal, needed}
-use Rattle.definitions.specs.Walk.{Walked, items, all}
+use Rattle.definitions.specs.Walk.{items, all}
 use Rattle.definitions.specs.Row.{Line, termsOf}
 use Rattle.definitions.specs.Table.{Table, rowRoom, termRoom, Outcome, refused, accepted, allTerms, fitted, totalsOf, counted, after}
 use Rattle.definitions.specs.Text.{statement, inFile}

@@ -16,7 +16,7 @@ use Rattle.definitions.specs.Walk.{Step, stop, bad, item, Walked, broken, items
 use Rattle.definitions.specs.Row.{Term, weightOf, literalOf, Line, comment, row, termsOf}
 use Rattle.definitions.specs.Stepping.{columnsRoom}
 use Rattle.definitions.specs.Table.{Table, table, rowRoom, termRoom, Outcome, accepted, kindIn, firstIn, countIn, boundIn}
-use Rattle.definitions.specs.Table.{firstsFrom, allTerms, filled, fitted, after}
+use Rattle.definitions.specs.Table.{firstsFrom, allTerms, filled, after}
 use Rattle.definitions.specs.Text.{statement, inFile}
 use Rattle.definitions.specs.File.{statements, file, reading}
 use Rattle.definitions.specs.declared.Entry.{Entry}

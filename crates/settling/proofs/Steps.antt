@@ -13,7 +13,7 @@ use Rattle.items.specs.Items.{Found, nothing, line, word, spotOf, foundFrom, te
 use Rattle.tokens.specs.Steps as tokens
 use Rattle.tokens.specs.declared.next.Next.{Next}
 use Rattle.items.proofs.Spots.{token-met, line-met, end-met}
-use Rattle.settling.specs.Flat.{Placed, placed, codeIn, saidBy, stopOf}
+use Rattle.settling.specs.Flat.{placed, codeIn, saidBy, stopOf}
 
 -- ---- the first of a list of items: nothing more; a refusal; or a token at p that says these literals, with the items behind it
 pub data Step : Type 0 where

@@ -1,17 +1,17 @@
 -- A row or a statement that reads well has met its terms; what is left where none are met.
 use Prim.Native.Nat.{ℕ, _+_, _≤_, _<_}
 use mathlib.Core.Path.{_≡_, refl, sym, ap, _∙_}
-use mathlib.Core.List.{List, [], _∷_, map}
+use mathlib.Core.List.{List, [], _∷_}
 use lib.ListN.{length, getD, drop, drop-of-length-le}
 use lib.Seq.{take-nil, drop-cons}
 use lib.IntN.{ℤ}
 use Rattle.definitions.specs.declared.Fault.{Fault}
 use Rattle.definitions.specs.Bytes.{blanks, begins, classOf}
 use Rattle.definitions.specs.Reader.{Got, none, got, Reader, chain, done, fail}
-use Rattle.definitions.specs.Walk.{Step, stop, bad, item}
+use Rattle.definitions.specs.Walk.{stop, item}
 use Rattle.definitions.specs.Row.{Term, Row, Line, comment, row, termsOf}
 use Rattle.definitions.specs.Stepping.{columnsRoom}
-use Rattle.definitions.specs.Text.{sum, comparison, ending, constraint, minBlanks, goal, remark, asLine, statementBy, afterBlanks}
+use Rattle.definitions.specs.Text.{sum, comparison, ending, constraint, minBlanks, goal, asLine, statementBy, afterBlanks}
 use Rattle.definitions.specs.Text.{statementAt, statement}
 use Rattle.definitions.specs.declared.Options.{Options}
 use Rattle.definitions.specs.declared.Beginning.{Beginning}

@@ -7,7 +7,6 @@ use definitions::Fault;
 use definitions::Options;
 use literals::Lit;
 use pieces::NextTerm;
-ghost use mathlib.Core.Path.{_≡_};
 ghost use Rattle.sums.specs.Walked.{TermPut, SumWalked};
 
 // How many terms, their absolute weights added up to a cap, and the bytes that they take; or what is refused.

@@ -10,7 +10,7 @@ use lib.ListN.{length, take, drop, length-drop}
 use Rattle.definitions.specs.Limits.{indexLimit}
 use Rattle.definitions.specs.Refusal.{refusal}
 use Rattle.definitions.specs.Table.{refused, accepted}
-use Rattle.definitions.specs.Values.{isSolid, frontOf, formOf, Item, untagged, token, front, itemsFrom, appended, bitsToken}
+use Rattle.definitions.specs.Values.{isSolid, formOf, Item, untagged, token, front, itemsFrom, appended, bitsToken}
 use Rattle.definitions.specs.Values.{anyConflict, hear}
 use Rattle.definitions.specs.declared.Form.{Form}
 use Rattle.definitions.specs.declared.Form.the-variants.{ZerosAndOnes}

@@ -1,5 +1,4 @@
 -- `count_file` meets its contract: 1, or what the walk over the statements counted (proofs/Counted.antt).
-use denote.Ref.{now}
 use Rattle.counts.proofs.Counted.{count-long, count-short}
 use borrow.Author.Needs.{needs}
 use Rattle.counts.proofs.count_file.Statement.{statement}

@@ -1,7 +1,7 @@
 -- `heard::hear` meets its contract: the first conflict, the refusal that stopped the first walk, or the length
 -- (proofs/Hearing.antt). Assumes nothing.
 use Prim.Native.Nat.{ℕ}
-use mathlib.Core.Path.{_≡_, sym, ap, _∙_}
+use mathlib.Core.Path.{sym, ap, _∙_}
 use mathlib.Core.Bool.{Bool}
 use mathlib.Core.List.{List}
 use native.Mathlib.Omega.{arith}

@@ -7,7 +7,6 @@ use native.Mathlib.Omega.{arith}
 use borrow.Author.Needs.{needs}
 use denote.Ref.{now}
 use lib.ListN.{length}
-use Rattle.definitions.specs.Stepping.{stepAt}
 use Rattle.definitions.specs.declared.Options.{Options}
 use Rattle.definitions.proofs.SameAnswers.{Forward}
 use Rattle.walker.specs.Said.{saidStepped}

@@ -1,8 +1,5 @@
 -- `put_field` meets its contract: a tab before the count that was printed behind it, or neither (proofs/Lands.antt).
 use native.Mathlib.Omega.{arith}
-use mathlib.Core.Path.{_∙_}
-use mathlib.Core.List.{_∷_}
-use lib.ListN.{length-set}
 use borrow.Author.Needs.{needs}
 use denote.Ref.{now}
 use Rattle.definitions.specs.Bytes.{tab}

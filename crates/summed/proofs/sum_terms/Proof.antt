@@ -1,7 +1,7 @@
 -- `summed::sum_terms` meets its contract: each refusal is where the definition gives it, in its order
 -- (proofs/Orders.antt). Assumes nothing.
 use mathlib.Core.Path.{_≡_, sym, ap, _∙_}
-use mathlib.Core.Bool.{Bool, true, false}
+use mathlib.Core.Bool.{Bool, true}
 use Prim.Native.Nat.{ℕ, _≤_}
 use native.Mathlib.Omega.{arith}
 use borrow.Author.Needs.{needs}

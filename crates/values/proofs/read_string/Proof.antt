@@ -1,7 +1,6 @@
 -- `read_string` meets its contract: what the string's check refuses, 12, or both rows with their bits
 -- (proofs/Reading.antt). Assumes nothing.
 use mathlib.Core.Path.{_≡_, refl, sym, ap, subst, _∙_}
-use mathlib.Core.Bool.{Bool}
 use mathlib.Core.List.{List, []}
 use Prim.Native.Nat.{ℕ, _+_, _-_, _≤_, _<_}
 use native.Mathlib.Omega.{arith}

@@ -1,5 +1,5 @@
 -- `read_values` meets its contract: an empty block is 20; else one function for each form. Assumes nothing.
-use mathlib.Core.Path.{_≡_, refl, sym, ap, _∙_}
+use mathlib.Core.Path.{sym, _∙_}
 use native.Mathlib.Omega.{arith}
 use borrow.Author.Needs.{needs}
 use Rattle.values.proofs.Reading.{read-empty}

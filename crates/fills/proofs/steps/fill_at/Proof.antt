@@ -3,10 +3,9 @@
 use Prim.Native.Nat.{ℕ, _≤_}
 use mathlib.Core.List.{List}
 use mathlib.Core.Path.{_≡_, ap, sym, subst, _∙_}
-use native.Mathlib.Omega.{arith}
 use borrow.Author.Needs.{needs}
 use denote.Ref.{now}
-use lib.ListN.{length, drop}
+use lib.ListN.{length}
 use lib.IntN.{ℤ}
 use Rattle.definitions.specs.Text.{statement}
 use Rattle.definitions.specs.Stepping.{stepped, stepAt, steppedBy, termsBy, columnsRoom}

@@ -1,5 +1,5 @@
 -- `fill_terms` meets its contract: the end, the statement's own refusal, 10, and the terms (proofs/FillTerms.antt).
-use Prim.Native.Nat.{ℕ, _≤_, _<_, _^_}
+use Prim.Native.Nat.{ℕ}
 use mathlib.Core.List.{List}
 use mathlib.Core.Path.{_≡_, ap, sym, subst, _∙_}
 use native.Mathlib.Omega.{arith}

@@ -1,8 +1,8 @@
 -- `put_literal` meets its contract: the number, and what stands before it (proofs/Literals.antt); or nothing.
 use native.Mathlib.Omega.{arith}
-use mathlib.Core.Path.{_≡_, sym, ap, _∙_}
+use mathlib.Core.Path.{_≡_}
 use mathlib.Core.Logic.{⊎-elim}
-use Prim.Native.Nat.{ℕ, _+_, _≤_, _<_}
+use Prim.Native.Nat.{_+_, _≤_}
 use lib.ListN.{length, length-set}
 use denote.Ref.{now}
 use Rattle.definitions.specs.Number.{decimal}

@@ -8,7 +8,7 @@ use mir.Syntax.{w64}
 use mir.Val.{SFits}
 use mir.Facts.{toZ-ofZ}
 use denote.Ref.{now}
-use Rattle.definitions.specs.Row.{Term, term}
+use Rattle.definitions.specs.Row.{term}
 use Rattle.puts.proofs.Each.{each-as}
 use Rattle.shown.specs.declared.terms.Style.{Style}
 use Rattle.shown.specs.declared.terms.Shown.{Shown}

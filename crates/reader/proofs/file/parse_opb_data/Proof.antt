@@ -1,8 +1,6 @@
 -- `parse_opb_data` meets its contract: what the first walk counted, held against the room, is what `reading` says
 -- (proofs/Files.antt).
 use mathlib.Core.Path.{_≡_, sym, ap, _∙_}
-use mathlib.Core.List.{List}
-use Prim.Native.Nat.{ℕ}
 use borrow.Author.Needs.{needs}
 use denote.Ref.{now}
 use Rattle.definitions.specs.Answers.{saidCounted}

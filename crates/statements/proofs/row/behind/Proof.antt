@@ -2,9 +2,6 @@
 use Prim.Native.Nat.{_+_, _<_, _^_}
 use native.Mathlib.Omega.{arith}
 use borrow.Author.Needs.{needs}
-use mir.Syntax.{w64}
-use mir.Val.{SFits}
-use mir.Facts.{toZ-ofZ}
 use Rattle.statements.proofs.row.behind.Statement.{statement}
 use Rattle.statements.proofs.row.behind.Tie as tie
 
