@@ -6,7 +6,7 @@
 // A case is a letter and numbers, each parted from the next by one space. A column is the count of its entries, and the
 // entries; so are BYTES. TABLE is the columns of kinds, firsts, counts, bounds, weights and literals.
 //
-//   s NUMBER FIRST               a number as file number, index, code and byte (codes.rt)
+//   s NUMBER FIRST               a number as file number, index, code and byte
 //   t BYTES                      the front of a text: blanks, line ending, bytes up to one, number, digits
 //   p NUMBER COUNT AT BYTES      a number, a count and a text, each printed into 24 bytes from a place on
 //   v LENGTH BYTES VALUES KNOWN  a block of value lines on top of what is known
@@ -15,12 +15,11 @@
 //   n TABLE FIRSTS LITERALS      the table normalised into columns of which two have so many entries
 //   e TABLE ROW VALUES KNOWN     a row evaluated, also where only some variables are known, and judged
 //
-// t, p, v and r are run by crates/vectors_texts, w, n and e by crates/vectors_tables; how a line is read and an answer
-// printed is in crates/vectors_lines.
+// Each is run by a crate of its own: s by vectors_codes, t and p by vectors_texts, v by vectors_blocks, r by
+// vectors_files, w and e by vectors_tables, which reads the table of n too and hands it to vectors_normalising. A line is
+// read by vectors_words and vectors_columns, an answer printed by vectors_shown.
 //
 // Assumes nothing but what libc says of itself.
-mod codes;
-
 use streams::Input;
 ghost use mathlib.Core.Path.{_≡_};
 ghost use Prim.Native.Nat.{_<_, _≤_};
@@ -51,22 +50,22 @@ fn is_case(line: &[u8]) -> bool {
     }
     let command = line[0];
     match command {
-        b's' => codes::symbol_case(line),
+        b's' => vectors_codes::symbol_case(line),
         b't' => vectors_texts::text_case(line),
         b'p' => vectors_texts::print_case(line),
-        b'v' => vectors_texts::block_case(line),
-        b'r' => vectors_texts::read_case(line),
+        b'v' => vectors_blocks::block_case(line),
+        b'r' => vectors_files::read_case(line),
         _ => vectors_tables::table_case(command, line),
     }
 }
 
 fn run_case(line: &[u8], number: usize) {
-    vectors_lines::say(b"=");
+    vectors_shown::say(b"=");
     if !is_case(line) {
-        vectors_lines::say(b" bad case");
-        vectors_lines::say_size(number);
+        vectors_shown::say(b" bad case");
+        vectors_shown::say_size(number);
     }
-    vectors_lines::say(b"\n");
+    vectors_shown::say(b"\n");
 }
 
 fn run_cases(s: &[u8]) {

@@ -1,10 +1,9 @@
-// A part of the program `vectors`: the cases over a table, which is written, normalised or evaluated. Its columns are
-// arrays, of which as many entries are lent as the case has. Assumes nothing.
+// A part of the program `vectors`: the cases over a table, which is written, evaluated or, by vectors_normalising,
+// normalised. Its columns are arrays, of which as many entries are lent as the case has. Assumes nothing.
 mod evaluating;
-mod normalising;
 mod writing;
 
-use vectors_lines::ROOM;
+use vectors_columns::ROOM;
 
 fn columns_case(
     command: u8,
@@ -19,7 +18,7 @@ fn columns_case(
 ) -> bool {
     match command {
         b'w' => writing::write_case(line, at, kinds, firsts, counts, bounds, weights, literals),
-        b'n' => normalising::normal_case(
+        b'n' => vectors_normalising::normal_case(
             line,
             at,
             kinds,
@@ -55,8 +54,8 @@ fn terms_case(
 ) -> bool {
     let mut weights = [0i64; ROOM];
     let mut literals = [0u32; ROOM];
-    let w = vectors_lines::integers_at(line, at, &mut weights);
-    let l = vectors_lines::codes_at(line, w.next, &mut literals);
+    let w = vectors_columns::integers_at(line, at, &mut weights);
+    let l = vectors_columns::codes_at(line, w.next, &mut literals);
     let m = w.count;
     let n = l.count;
     columns_case(
@@ -78,10 +77,10 @@ pub fn table_case(command: u8, line: &[u8]) -> bool {
     let mut firsts = [0usize; ROOM];
     let mut counts = [0usize; ROOM];
     let mut bounds = [0i64; ROOM];
-    let k = vectors_lines::bytes_at(line, 2, &mut kinds);
-    let f = vectors_lines::sizes_at(line, k.next, &mut firsts);
-    let n = vectors_lines::sizes_at(line, f.next, &mut counts);
-    let b = vectors_lines::integers_at(line, n.next, &mut bounds);
+    let k = vectors_columns::bytes_at(line, 2, &mut kinds);
+    let f = vectors_columns::sizes_at(line, k.next, &mut firsts);
+    let n = vectors_columns::sizes_at(line, f.next, &mut counts);
+    let b = vectors_columns::integers_at(line, n.next, &mut bounds);
     let o = k.count;
     let p = f.count;
     let q = n.count;
