@@ -4,7 +4,6 @@ use Prim.Native.Nat.{ℕ, zero, suc, _≤_, _<_}
 use mathlib.Core.Path.{_≡_, refl, ap}
 use mathlib.Core.Bool.{Bool, true, false, cond}
 use mathlib.Core.List.{[]}
-use mathlib.Core.Logic.{_⊎_, inl, inr}
 use native.Mathlib.Omega.{arith}
 use borrow.Author.Tests.{ne-eqb}
 use lib.Dec.{eqb}
@@ -32,19 +31,6 @@ module _ (n : ℕ) where
   pub kind-objective : (n ≡ 1 → ⊥) → (n ≡ 2 → ⊥) → (n ≡ 3 → ⊥) → readKind n ≡ objective
   unfolding readKind
   kind-objective a b c = rw (ne-eqb n 1 a, ne-eqb n 2 b, ne-eqb n 3 c)
-
--- the kinds of constraints are the numbers from 1 to 3
-pub kind-constraint : (n : ℕ) → 1 ≤ n → n ≤ 3 → readKind n ≡ objective → ⊥
-unfolding readKind
-kind-constraint zero h g e = omega arith
-kind-constraint (suc zero) h g e = let z : _≡_ {A = ℕ} 0 1 = cc in omega arith
-kind-constraint (suc (suc zero)) h g e = let z : _≡_ {A = ℕ} 0 1 = cc in omega arith
-kind-constraint (suc (suc (suc zero))) h g e = let z : _≡_ {A = ℕ} 0 1 = cc in omega arith
-kind-constraint (suc (suc (suc (suc n)))) h g e = omega arith
-
-pub kind-other : (n : ℕ) → (n < 1) ⊎ (3 < n) → readKind n ≡ objective
-kind-other n (inl h) = kind-objective n (λ q. omega arith) (λ q. omega arith) (λ q. omega arith)
-kind-other n (inr h) = kind-objective n (λ q. omega arith) (λ q. omega arith) (λ q. omega arith)
 
 -- ---- read rows
 

@@ -53,15 +53,6 @@ module _ {A : Type 0} where
       ap (λ (r : List A). take n l ++ (ys ++ r)) (drop-of-length-le (drop n l) {i = length l - n} (omega (arith, length-drop n l)))
       ∙ ap (λ (r : List A). take n l ++ r) (append-nil ys)
 
-  -- the whole column, once a call has filled the part from n on
-  pub part-filled : (xs ys l₀ l v : List A) (n : ℕ) → n ≡ length xs → l ≡ over xs l₀ → v ≡ over ys (drop n l)
-      → putMid n (length l - n) l v ≡ over (xs ++ ys) l₀
-  part-filled xs ys l₀ l v n e q p =
-      put-rest l v n
-      ∙ ap (λ (r : List A). take n l ++ r) p
-      ∙ ap (λ (r : List A). take n r ++ over ys (drop n r)) q
-      ∙ over-part xs ys l₀ n e
-
   pub part-back : (l xs ys : List A) (n : ℕ) → ys ≡ over xs (take (length l - n) (drop n l))
       → putMid n (length l - n) l ys ≡ take n l ++ over xs (drop n l)
   part-back l xs ys n e = put-rest l ys n ∙ ap (λ (r : List A). take n l ++ r) (e ∙ ap (over xs) (rest-of l n))

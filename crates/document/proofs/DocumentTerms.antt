@@ -27,11 +27,6 @@ use Rattle.definitions.proofs.RowsBack.{reads-terms}
 
 -- ---- spaces
 
-pub spaces-length : (n : ℕ) → length (D.spaces n) ≡ n
-unfolding D.spaces
-spaces-length zero = refl
-spaces-length (suc n) = ap suc (spaces-length n)
-
 pub spaces-blanks : (n : ℕ) (rest : List ℕ) → blanks rest ≡ 0 → blanks (D.spaces n ++ rest) ≡ length (D.spaces n)
 unfolding D.spaces blanks
 spaces-blanks zero rest e = e

@@ -1,5 +1,5 @@
 -- The difference of two numbers in 64 signed bits: one of them against a limit that the other moves.
-use mathlib.Core.Path.{_≡_, refl, ap, _∙_}
+use mathlib.Core.Path.{_≡_, ap, _∙_}
 use mathlib.Core.Bool.{Bool, true, false, cond}
 use Prim.Native.Nat.{ℕ, _≤_, _<_, _^_}
 use native.Mathlib.Omega.{arith}
@@ -15,7 +15,7 @@ use Rattle.definitions.specs.Table.{andThen}
 use Rattle.definitions.specs.declared.Kind.{Kind}
 use Rattle.definitions.specs.Back.{isGoal}
 use Rattle.definitions.proofs.Whole.{one-side, up-pos, dn-pos, up-negsuc, dn-negsuc, up-neg, dn-neg, sum-is, diff-is, lt-is, ge-is, in-up}
-use Rattle.definitions.proofs.Whole.{in-dn, is-in, in-true, true-in, over-up, over-dn, same}
+use Rattle.definitions.proofs.Whole.{in-dn, is-in, in-true, over-up, over-dn, same}
 use Rattle.printed.specs.Kinds.{isAtMost}
 use Rattle.printed.specs.Bounds.{within, boundBefore, boundAfter, fallenBound, printedBound}
 
@@ -28,15 +28,6 @@ within-fits z f = rw (in-true z f)
 pub within-over : (z : ℤ) → inI64 z ≡ false → refuse 8 ≡ within z
 unfolding within
 within-over z e = rw e
-
--- what is said within is within
-pub within-in : (z y : ℤ) → accept y ≡ within z → SFits w64 z
-unfolding within
-within-in z y e = by (inI64 z) refl e
-  where
-    by : (b : Bool) → inI64 z ≡ b → accept y ≡ cond b (accept z) (refuse 8) → SFits w64 z
-    by true p e = true-in z p
-    by false p e = let q : _≡_ {A = ℕ} 0 1 = cc in absurd (omega arith)
 
 -- ---- x − y
 

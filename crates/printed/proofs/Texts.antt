@@ -30,10 +30,6 @@ not-zero (pos zero) h = absurd (h refl)
 not-zero (pos (suc n)) h = refl
 not-zero (negsuc n) h = refl
 
-pub no-offset : (z : ℤ) → z ≡ pos 0 → offsetText z ≡ []
-unfolding offsetText
-no-offset z e = rw e
-
 pub some-offset : (z : ℤ) → (z ≡ pos 0 → ⊥) → offsetText z ≡ remarkText (offsetWords ++ integerText z)
 unfolding offsetText
 some-offset z h = rw (not-zero z h)
@@ -43,9 +39,6 @@ some-offset z h = rw (not-zero z h)
 pub remark-length : (t : List ℕ) → length (remarkText t) ≡ length t + 3
 unfolding remarkText
 remark-length t = omega (arith, length-append t (10 ∷ []))
-
-pub operator-equal : (k : Kind) → isEqual k ≡ true → operatorText k ≡ 61 ∷ []
-operator-equal k e = rw e
 
 pub operator-other : (k : Kind) → isEqual k ≡ false → operatorText k ≡ 62 ∷ 61 ∷ []
 operator-other k e = rw e

@@ -132,10 +132,6 @@ negative-fits w f n = rw (+ℤ-idl (negℤ w)) (by w f n)
 
 -- ---- the length of a term's text
 
-pub literal-words-some : (tilde : Bool) (n : ℕ) → 2 ≤ length (literalWords tilde n)
-literal-words-some true n = omega arith
-literal-words-some false n = omega arith
-
 pub term-words-length : (t : Shown) (n : ℕ) → length (termWords t n) ≡ length (integerText (t .weight)) + length (literalWords (t .tilde) n)
 unfolding termWords
 term-words-length t n = length-append (integerText (t .weight)) (literalWords (t .tilde) n)

@@ -1,7 +1,7 @@
 -- Terms in columns, in words of the columns themselves: what terms a row's entry names, and what is asked of them.
 use mathlib.Core.Path.{_≡_, refl, sym, ap, _∙_}
 use mathlib.Core.Bool.{Bool, true, _&&_}
-use mathlib.Core.List.{List, [], _∷_, _++_, map, map-id}
+use mathlib.Core.List.{List, [], _∷_, _++_}
 use Prim.Native.Nat.{ℕ, zero, suc, _+_, _≤_, _<_, min}
 use native.Mathlib.Numerals.{add-one}
 use native.Mathlib.Omega.{arith}
@@ -9,7 +9,7 @@ use borrow.Author.Tests.{leb-true}
 use lib.ListN.{length, getD, take, drop, length-take, length-drop, drop-of-length-le}
 use lib.Seq.{drop-cons}
 use lib.IntN.{ℤ, pos}
-use Rattle.definitions.specs.Row.{Term, term, weightOf, literalOf, sizes}
+use Rattle.definitions.specs.Row.{Term, term, sizes}
 use Rattle.definitions.specs.Literal.{indexOf, isIndex}
 use Rattle.definitions.specs.Table.{Table, termRoom, termsOn, termsAt, inColumn, indexed}
 use Rattle.definitions.specs.declared.Entry.{Entry}
@@ -107,42 +107,6 @@ unfolding termsOn sizes weightSizes
 sizes-on [] cs h = refl
 sizes-on (w ∷ ws) [] h = absurd (omega arith)
 sizes-on (w ∷ ws) (c ∷ cs) h = omega (arith, sizes-on ws cs (omega arith))
-
-module _ {B : Type 0} where
-  -- what looks at both
-  unfoldable pub mapOn : (ℤ → ℕ → B) → List ℤ → List ℕ → List B
-  mapOn f [] cs = []
-  mapOn f (w ∷ ws) [] = []
-  mapOn f (w ∷ ws) (c ∷ cs) = f w c ∷ mapOn f ws cs
-
-  pub map-on : (f : Term → B) (ws : List ℤ) (cs : List ℕ) → map f (termsOn ws cs) ≡ mapOn (λ w c. f (term w c)) ws cs
-  unfolding termsOn mapOn
-  map-on f [] cs = refl
-  map-on f (w ∷ ws) [] = refl
-  map-on f (w ∷ ws) (c ∷ cs) = ap (λ (l : List B). f (term w c) ∷ l) (map-on f ws cs)
-
-  -- what looks at weights alone, and at codes alone
-  pub map-weights-on : (f : ℤ → B) (ws : List ℤ) (cs : List ℕ) → length ws ≡ length cs
-      → map (λ (t : Term). f (t .weight)) (termsOn ws cs) ≡ map f ws
-  unfolding termsOn
-  map-weights-on f [] cs h = refl
-  map-weights-on f (w ∷ ws) [] h = absurd (omega arith)
-  map-weights-on f (w ∷ ws) (c ∷ cs) h = ap (λ (l : List B). f w ∷ l) (map-weights-on f ws cs (omega arith))
-
-  pub map-codes-on : (f : ℕ → B) (ws : List ℤ) (cs : List ℕ) → length ws ≡ length cs
-      → map (λ (t : Term). f (t .code)) (termsOn ws cs) ≡ map f cs
-  unfolding termsOn
-  map-codes-on f [] [] h = refl
-  map-codes-on f [] (c ∷ cs) h = absurd (omega arith)
-  map-codes-on f (w ∷ ws) [] h = absurd (omega arith)
-  map-codes-on f (w ∷ ws) (c ∷ cs) h = ap (λ (l : List B). f c ∷ l) (map-codes-on f ws cs (omega arith))
-
--- the columns themselves
-pub weights-on : (ws : List ℤ) (cs : List ℕ) → length ws ≡ length cs → map weightOf (termsOn ws cs) ≡ ws
-weights-on ws cs h = map-weights-on (λ w. w) ws cs h ∙ map-id ws
-
-pub literals-on : (ws : List ℤ) (cs : List ℕ) → length ws ≡ length cs → map literalOf (termsOn ws cs) ≡ cs
-literals-on ws cs h = map-codes-on (λ c. c) ws cs h ∙ map-id cs
 
 -- ---- of an entry in its column
 

@@ -1,6 +1,6 @@
 -- The literals of a string of zeros and ones, and the length that they reach.
-use Prim.Native.Nat.{ℕ, suc, _+_, _<_, max}
-use mathlib.Core.Path.{_≡_, refl, ap, _∙_}
+use Prim.Native.Nat.{ℕ, _+_, _<_, max}
+use mathlib.Core.Path.{_≡_, ap, _∙_}
 use mathlib.Core.Bool.{Bool, true, false}
 use mathlib.Core.List.{List, [], _∷_, _++_}
 use native.Mathlib.Omega.{arith}
@@ -29,11 +29,6 @@ unfolding appended
 appended-next n s i h =
     rw (add-one i, take-suc s i 0 h) (appended-append n (take i s) (getD s i 0 ∷ [])
     ∙ ap (λ (m : ℕ). appended n (take i s) ++ appended (n + m) (getD s i 0 ∷ [])) (length-take-le i s (omega arith)))
-
-pub length-appended : (n : ℕ) (s : List ℕ) → length (appended n s) ≡ length s
-unfolding appended
-length-appended n [] = refl
-length-appended n (b ∷ s) = ap suc (length-appended (n + 1) s)
 
 -- each literal's variable is the next one, so the length grows by the string's
 pub length-after-appended : (n : ℕ) (s : List ℕ) → lengthAfter n (appended n s) ≡ n + length s
