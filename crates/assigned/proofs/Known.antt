@@ -1,6 +1,6 @@
 -- Which variables have a value: those that the words hold and whose bit is known. With `all` every bit is.
 use mathlib.Core.Path.{_≡_, refl, sym, ap, _∙_}
-use mathlib.Core.Bool.{Bool, true, false, cond, _&&_}
+use mathlib.Core.Bool.{Bool, true, false, cond, _&&_, and-true}
 use mathlib.Core.List.{List}
 use Prim.Native.Nat.{ℕ, suc, _+_, _-_, _*_, _/_, _%_, _^_, _≤_, _<_}
 use native.Mathlib.Nat.{pow-suc}
@@ -12,7 +12,8 @@ use lib.Pow.{pow-pos, high, ones-lt, ones-split}
 use Rattle.definitions.specs.Literal.{indexOf}
 use Rattle.definitions.specs.Meaning.{assigned, isKnown}
 use Rattle.definitions.specs.Evaluate.{within}
-use Rattle.term_checks.proofs.Every.{both-left, every-less}
+use Rattle.definitions.proofs.Truths.{both}
+use Rattle.term_checks.proofs.Every.{every-less}
 use Rattle.assigned.specs.Parts.{knownWord, hasBy, codesCovered}
 
 -- bit k of a word
@@ -37,10 +38,6 @@ unfolding assigned
 known-bit true ks v = full-bit (v % 64) (omega arith)
 known-bit false ks v = refl
 
-and-true : (b : Bool) → b && true ≡ b
-and-true true = refl
-and-true false = refl
-
 module _ (ws ks : List ℕ) (v : ℕ) where
   has-is : (all : Bool) → hasBy all ws ks v ≡ within ws v && cond all true (assigned ks v)
   unfolding isKnown
@@ -58,7 +55,7 @@ module _ (ws ks : List ℕ) (v : ℕ) where
   has-within : (all : Bool) → hasBy all ws ks v ≡ true → within ws v ≡ true
   unfolding isKnown
   has-within true e = e
-  has-within false e = both-left (within ws v) (assigned ks v) e
+  has-within false e = both (within ws v) (assigned ks v) e .0
 
 pub covered-within : (all : Bool) (ws ks cs : List ℕ) → codesCovered (hasBy all ws ks) cs ≡ true → codesCovered (within ws) cs ≡ true
 covered-within all ws ks cs e =

@@ -1,7 +1,7 @@
 -- Laws of `min:` and of comments, by what the code looks at: a byte at a place, blanks and a line ending counted.
 use Prim.Native.Nat.{ℕ, zero, suc, _+_, _-_, _≤_, _<_}
 use mathlib.Core.Path.{_≡_, refl, sym, ap, _∙_}
-use mathlib.Core.Bool.{Bool, true, false, cond, _&&_}
+use mathlib.Core.Bool.{Bool, true, false, cond, and-false}
 use mathlib.Core.List.{List, [], _∷_}
 use native.Mathlib.Omega.{arith}
 use native.Mathlib.Nat.{sub-zero}
@@ -21,10 +21,6 @@ use Rattle.definitions.proofs.Texts.{until-within, ending-within}
 use Rattle.blanks.proofs.At.{at-is}
 
 -- ---- a word at the front
-
-and-false : (t : Bool) → t && false ≡ false
-and-false true = refl
-and-false false = refl
 
 starts-short : (w s : List ℕ) → length s < length w → startsWith w s ≡ false
 unfolding startsWith

@@ -1,7 +1,7 @@
 -- What closes a sum of so many terms and of the size, by what the code tells apart.
 use Prim.Native.Nat.{ℕ, _≤_, _<_}
-use mathlib.Core.Path.{_≡_, refl}
-use mathlib.Core.Bool.{Bool, true, false, _&&_}
+use mathlib.Core.Path.{_≡_}
+use mathlib.Core.Bool.{Bool, and-false}
 use borrow.Author.Tests.{le-leb, lt-leb}
 use lib.Dec.{leb}
 use lib.IntN.{ℤ, pos}
@@ -17,10 +17,6 @@ use Rattle.columns.specs.Entries.{entryOf}
 use Rattle.operators.specs.Bounds.{compared}
 use Rattle.operators.proofs.Bounds.{compared-accept, compared-refuse}
 use Rattle.closings.specs.Closed.{closedBy, endedBy}
-
-and-false : (t : Bool) → t && false ≡ false
-and-false true = refl
-and-false false = refl
 
 -- a comparison of m bytes
 module _ (o : Options) (terms size : ℕ) (p : OpbOperator) (z : ℤ) (c : Bool) (m : ℕ) where

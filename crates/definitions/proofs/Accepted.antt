@@ -111,7 +111,7 @@ abbrev AskedItem : Item → Type 0
 AskedItem (say t) = oneLine t ≡ true
 AskedItem (line r) = indexed (r .terms) ≡ true
 
-indexed-units : (ts : List Term) → indexed (map unitTerm ts) ≡ indexed ts
+pub indexed-units : (ts : List Term) → indexed (map unitTerm ts) ≡ indexed ts
 unfolding indexed unitTerm
 indexed-units [] = refl
 indexed-units (t ∷ ts) = ap (λ (b : Bool). isIndex (indexOf (t .code)) && b) (indexed-units ts)

@@ -18,13 +18,12 @@ pub mod Texts
 pub mod Numbers
 pub mod Statements
 pub mod FileAnswers
--- ---- tables, and texts in outputs
+-- ---- tables
 pub mod Columns
 -- ---- meaning
 pub mod Meanings
 pub mod Normals
 pub mod Ones
--- ---- refusals
 -- ---- for ThereAndBack: what is written is read
 pub mod KnownTexts
 pub mod Readback
@@ -39,7 +38,3 @@ pub mod MeansBack
 pub mod PieceByPiece
 pub mod Stops
 pub mod Steps
-
--- ---- for OpbDocument
--- ---- for WrittenDocument
--- ---- for Needed

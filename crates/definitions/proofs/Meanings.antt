@@ -35,6 +35,9 @@ module _ (c : ℕ) where
   unfolding plain
   plain-even = omega arith
 
+  pub plain-not-negated : negated (plain c) ≡ false
+  plain-not-negated = ne-eqb (plain c % 2) 1 (λ e. omega (arith, plain-even))
+
 not-not : (b : Bool) → not (not b) ≡ b
 not-not true = refl
 not-not false = refl

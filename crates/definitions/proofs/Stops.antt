@@ -27,7 +27,7 @@ all-blank (b ∷ s) = by (isBlank b) refl (all-blank s)
     by true e h = rw (e, blanks) (e, h)
     by false e h = rw (e, blanks) tt
 
-after-is-no-stop : (k : ℕ) (g : Got Line) → afterBlanks k g ≡ stop → ⊥
+pub after-is-no-stop : (k : ℕ) (g : Got Line) → afterBlanks k g ≡ stop → ⊥
 after-is-no-stop k (none e) q = never cc
 after-is-no-stop k (got (comment f n b) m) q = never cc
 after-is-no-stop k (got (row r) m) q = never cc

@@ -1,5 +1,5 @@
 -- What does the number of an answer tell? 0 where a call accepted, else the refusal's number. Words of a theorem:
--- proofs/ZeroAccepts.antt has the statement, that it is 0 exactly where the call accepted, whatever the call.
+-- crates/laws/proofs/ZeroAccepts has the statement, that it is 0 exactly where the call accepted, whatever the call.
 use Prim.Native.Nat.{ℕ}
 use mathlib.Core.Path.{_≡_}
 use Rattle.definitions.specs.Table.{Outcome, refused, accepted}

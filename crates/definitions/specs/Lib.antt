@@ -25,7 +25,7 @@ pub mod Values
 -- ---- what is written
 pub mod Output
 pub mod Write
--- ---- the public OPB document, 01's examples, the listing program
+-- ---- 01's examples, the listing program
 pub mod TableP
 pub mod House
 -- ---- words of the theorems

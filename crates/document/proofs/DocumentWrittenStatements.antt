@@ -1,17 +1,17 @@
 -- Are the lines that are written for the document its statements? Constraints, comments and the line of an offset are,
 -- word for word; an objective's line lacks one space.
-use Prim.Native.Nat.{ℕ, suc, _+_, _%_, _≤_}
+use Prim.Native.Nat.{ℕ, suc, _+_, _≤_}
 use mathlib.Core.Path.{_≡_, refl, sym, ap, ap₂, _∙_}
 use mathlib.Core.Bool.{Bool, true, false}
 use mathlib.Core.List.{List, [], _∷_, _++_, map, append-assoc}
 use native.Mathlib.Omega.{arith}
-use borrow.Author.Tests.{ne-eqb, leb-true}
+use borrow.Author.Tests.{leb-true}
 use lib.ListN.{length}
 use lib.IntN.{ℤ, _+ℤ_}
 use Rattle.definitions.specs.Lists.{joined, AllOf}
 use Rattle.definitions.specs.Bytes.{minText, space}
 use Rattle.definitions.specs.Number.{integerText}
-use Rattle.definitions.specs.Literal.{indexOf, negated, plain}
+use Rattle.definitions.specs.Literal.{indexOf, plain}
 use Rattle.definitions.specs.Row.{Term, Row, rowOf}
 use Rattle.definitions.specs.declared.Kind.{Kind}
 use Rattle.definitions.specs.declared.Kind.the-variants.{AtLeast as atLeast, AtMost as atMost, Equal as equal, Objective as objective}
@@ -26,7 +26,7 @@ use Rattle.document.specs.DocumentWritten.{forDocument, constraintsAsked
 use Rattle.document.specs.DocumentWritten.{SatisfiedAlike, ValuedAlike}
 use Rattle.definitions.proofs.CountsBack.{printed-terms}
 use Rattle.definitions.proofs.Truths.{one-truth}
-use Rattle.definitions.proofs.Meanings.{opposite-half, plain-half, printed-holds, printed-value}
+use Rattle.definitions.proofs.Meanings.{opposite-half, plain-half, printed-holds, printed-value, plain-not-negated}
 use Rattle.definitions.proofs.Accepted.{GoodRow, WritableItem, printed-good}
 use Rattle.definitions.proofs.ItemsBack.{offsetSaid, offset-line}
 use Rattle.definitions.proofs.MeansBack.{shownKind, printed-kind}
@@ -39,10 +39,6 @@ use Rattle.document.proofs.DocumentWrittenTerms.{sum-text, sum-good, su
 abbrev NumberUpTo : ℕ → Term → Type 0
 NumberUpTo most t = indexOf (t .code) + 1 ≤ most
 
-never-negated : (c : ℕ) → negated (plain c) ≡ false
-unfolding plain
-never-negated c = ne-eqb (plain c % 2) 1 (λ q. omega arith)
-
 module _ (most : ℕ) where
   flipped-up-to : (ts : List Term) → AllOf (NumberUpTo most) ts → AllOf (NumberUpTo most) (map flipTerm ts)
   unfolding flipTerm
@@ -52,7 +48,7 @@ module _ (most : ℕ) where
   plain-up-to : (ts : List Term) → AllOf (NumberUpTo most) ts → AllOf (Plain most) (map plainTerm ts)
   unfolding plainTerm
   plain-up-to [] g = tt
-  plain-up-to (t ∷ ts) g = (record { plain = never-negated (t .code); within = rw (plain-half (t .code)) (g .0) }, plain-up-to ts (g .1))
+  plain-up-to (t ∷ ts) g = (record { plain = plain-not-negated (t .code); within = rw (plain-half (t .code)) (g .0) }, plain-up-to ts (g .1))
 
   pub printed-plain : (r : Row) → UpTo most r → AllOf (Plain most) (printed true r .terms)
   unfolding printed unnegated flipped

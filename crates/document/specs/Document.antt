@@ -1,4 +1,4 @@
--- What are the public OPB document's own linear grammar and meaning, apart from Text.antt and Meaning.antt? A file of
+-- What are the public OPB document's own linear grammar and meaning, apart from definitions' Text and Meaning? A file of
 -- the grammar is the text of a tree; what the trees below may hold beyond the grammar's sentences, `WellFormed` rules
 -- out. (The document: cril.univ-artois.fr/PB12/format.pdf; docs/DECISIONS.md says what is known of it here.)
 use Prim.Native.Nat.{ℕ, zero, suc, _+_, _*_, _≤_, _<_}

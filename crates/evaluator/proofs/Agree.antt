@@ -10,7 +10,7 @@ use Rattle.definitions.specs.Row.{Term, Row}
 use Rattle.definitions.specs.Table.{Table, accepted}
 use Rattle.definitions.specs.Meaning.{Assignment, isTrue, sumOf, holdsBy, holds, valueOf, assigned, isKnown}
 use Rattle.definitions.specs.Evaluate.{constraint, goal, covered, evaluatingKnown}
-use Rattle.term_checks.proofs.Every.{both-left, both-right}
+use Rattle.definitions.proofs.Truths.{both}
 use Rattle.assigned.specs.Parts.{looked}
 use Rattle.evaluator.proofs.Meant.{Holds, ConstraintMeant, ObjectiveMeant, known-constraint, known-objective}
 
@@ -22,7 +22,7 @@ module _ (has : ℕ → Bool) (a b : Assignment) (agree : (v : ℕ) → has v �
   sum-agrees [] e = refl
   sum-agrees (t ∷ ts) e =
       let v = indexOf (t .code) in
-      rw (agree v (both-left (has v) (covered has ts) e), sum-agrees ts (both-right (has v) (covered has ts) e))
+      rw (agree v (both (has v) (covered has ts) e .0), sum-agrees ts (both (has v) (covered has ts) e .1))
 
   constraint-agrees : (t : Table) (i : ℕ) (sum : ℤ) (h : Bool) → ConstraintMeant t i has a sum h → ConstraintMeant t i has b sum h
   unfolding holds

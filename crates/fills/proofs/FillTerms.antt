@@ -8,7 +8,7 @@ use borrow.Author.Tests.{le-leb, lt-leb}
 use lib.ListN.{length}
 use lib.Seq.{take-all}
 use lib.IntN.{ℤ}
-use Rattle.definitions.specs.Refusal.{refusal, needed}
+use Rattle.definitions.specs.Refusal.{refusal}
 use Rattle.definitions.specs.declared.Refusal.{Refusal}
 use Rattle.definitions.specs.Walk.{Step, stop, bad, item}
 use Rattle.definitions.specs.Lists.{over}
@@ -19,11 +19,8 @@ use Rattle.statements.specs.Brief.{briefStep}
 use Rattle.sums.specs.Walked.{TermsFilled, TermsPut}
 use Rattle.fills.specs.FillsTerms.{FillsTerms}
 use Rattle.definitions.specs.declared.Length.the-variants.{Refused, Is}
+use Rattle.laws.proofs.Puts.{needed-word}
 use Rattle.statements.proofs.Briefs.{brief-stop, brief-bad, LineIs, terms-in-file}
-
-needed-word : (n : ℕ) → n < 2 ^ 64 → needed n ≡ n
-unfolding needed
-needed-word n h = omega arith
 
 -- ---- what is answered and left, whatever the terms are of
 module _ (x : Outcome (List Term)) (w : List ℤ) (l : List ℕ) where

@@ -20,12 +20,10 @@ use Rattle.definitions.specs.Write.{Item, itemText, writtenIn, writing, fittedT
 use Rattle.definitions.specs.Back.{optionsOf, linesBack, termsBack}
 use Rattle.definitions.specs.declared.Mode.{Mode}
 use Rattle.definitions.proofs.ThereAndBack.{ThereAndBack, there-and-back}
+use Rattle.definitions.proofs.Truths.{never}
 use Rattle.measures.specs.declared.rows.Extent.{Extent}
 use Rattle.measures.specs.Walks.{extentsOf, extentBy, extentFor}
 use Rattle.foreseen.specs.Returning.{Return, unwritten, unread, back, readBack, returning, foretold}
-
-never {ℓ} : {X : Type ℓ} → _≡_ {A = ℕ} 0 1 → X
-never z = absurd (omega arith)
 
 -- ---- what is foretold, test by test
 

@@ -1,16 +1,12 @@
 -- Two answers that the contract of the public function allows are equal.
 use mathlib.Core.Path.{_≡_, sym, ap, _∙_}
-use Prim.Native.Nat.{ℕ}
-use native.Mathlib.Omega.{arith}
 use Rattle.definitions.specs.Table.{totalsOf}
 use Rattle.definitions.specs.declared.Totals.{Totals}
+use Rattle.definitions.proofs.Truths.{never}
 use Rattle.foreseen.specs.Returning.{saidReturned}
 use Rattle.foreseen.specs.declared.Returned.{Returned}
 use Rattle.foreseen.specs.declared.Returned.the-variants.{NotWritten, NotRead, Back}
 use Rattle.foreseen.proofs.foresee.Reads as foresee
-
-never {ℓ} : {X : Type ℓ} → _≡_ {A = ℕ} 0 1 → X
-never z = absurd (omega arith)
 
 pub said-one : (r r' : Returned) → saidReturned r ≡ saidReturned r' → r ≡ r'
 said-one (NotWritten r) (NotWritten r') e = cc

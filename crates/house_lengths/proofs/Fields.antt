@@ -38,9 +38,6 @@ module _ (w : ℤ) (b : Bool) (n : ℕ) where
   pub plain-words-length : b ≡ false → length (termWords w b n) ≡ length (integerText w) + length (decimal n) + 3
   plain-words-length e = omega (arith, words-length, ap (λ (x : Bool). length (literalWords x n)) e)
 
-pub not-both : {b : Bool} {A : Type 0} → b ≡ true → b ≡ false → A
-not-both p q = let z : _≡_ {A = Bool} true false = sym p ∙ q in never (cc)
-
 -- a term by its literal's file number
 module _ (first : ℕ) (w : ℤ) (c : ℕ) where
   pub term-words : (n : ℕ) → n ≡ indexOf c + first → termWords w (negated c) n ≡ termFields first (term w c)

@@ -1,5 +1,5 @@
--- Laws of the words of a line: which kind a number is, and a line in the pieces that the code puts one behind the
--- other.
+-- Laws of the words of a line: the word of a kind, and a line, the head and the whole text in the pieces that the code
+-- puts one behind the other.
 use mathlib.Core.Path.{_≡_, refl, sym, ap}
 use mathlib.Core.List.{List, [], _∷_, _++_, append-assoc}
 use Prim.Native.Nat.{ℕ, zero, suc, _+_, _≤_}

@@ -1,5 +1,5 @@
--- Runs of bytes at the front, passed one by one: one law for the loops of `white_run`, `solid_run` and `bit_run`, over
--- any test.
+-- Runs of bytes at the front, passed one by one: one law for the loops of `solid_run` here and of `white_run` and
+-- `bit_run` in crates/forms, over any test.
 use Prim.Native.Nat.{ℕ, suc, _+_, _≤_, _<_}
 use mathlib.Core.Path.{_≡_, refl, ap, sym, _∙_}
 use mathlib.Core.Bool.{Bool, true, false, _||_}
@@ -66,7 +66,7 @@ module _ (t : ℕ → Bool) (s : List ℕ) (i : ℕ) (p : Passed t s i) where
         rw (drop-cons s i 0 h, front-more t (getD s i 0) (drop (suc i) s) e) in
         rw add-one (record { within = h; count = omega (arith, p .count) })
 
--- ---- a number that is sought among the first i, for the loop of `has_x`
+-- ---- a number that is sought among the first i, for the loop of `has_x` in crates/forms
 
 pub record Sought (n : ℕ) (s : List ℕ) (i : ℕ) (found : Bool) : Type 0 where
   pub within : i ≤ length s

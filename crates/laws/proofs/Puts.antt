@@ -1,23 +1,17 @@
 -- What is left in an output that texts are put into? What the two walks of a writer of lines go by: a text is put behind
--- another, byte by byte or whole; a needed length is added up; the first rows of a table are walked, and the rest left.
+-- another, byte by byte or whole; a needed length is added up; and one more of a list's first n.
 use mathlib.Core.Path.{_≡_, sym, ap, _∙_}
 use mathlib.Core.List.{List, [], _∷_, _++_, append-assoc}
-use Prim.Native.Nat.{ℕ, zero, suc, _+_, _*_, _/_, _^_, _≤_, _<_}
+use Prim.Native.Nat.{ℕ, zero, suc, _+_, _≤_, _<_, _^_}
 use native.Mathlib.Nat.{add-zero}
-use native.Mathlib.Decide.{decLt}
 use native.Mathlib.Omega.{arith}
 use native.Mathlib.Numerals.{add-one}
 use borrow.Author.Tests.{le-leb, lt-leb}
 use lib.ListN.{length, take, drop, set, length-append, length-drop, take-append-drop}
-use lib.IntN.{ℤ, pos, negsuc}
-use mir.Syntax.{w64}
-use mir.Val.{SFits}
 use lib.Seq.{length-take-le, take-at, drop-at, drop-drop, set-split}
 use Rattle.definitions.specs.Refusal.{refuse, accept, needed}
-use Rattle.definitions.specs.Number.{decimal, integerText}
 use Rattle.definitions.specs.Output.{putAt, putIn}
 use Rattle.definitions.proofs.Truths.{never}
-use Rattle.definitions.proofs.Numbers.{decimal-length-small, decimal-length-big}
 
 abbrev pub placed : List ℕ → ℕ → List ℕ → List ℕ
 placed text at o = take at o ++ (text ++ drop (at + length text) o)
@@ -126,6 +120,11 @@ then-byte b q {a} {at} {o} {p} {o₁} h e f =
 
 -- ---- needed lengths
 
+-- what a word holds is not cut
+pub needed-word : (n : ℕ) → n < 2 ^ 64 → needed n ≡ n
+unfolding needed
+needed-word n h = omega arith
+
 -- what was cut at the limit may be added to
 pub needed-add : (n m : ℕ) → needed (needed n + m) ≡ needed (n + m)
 unfolding needed
@@ -134,32 +133,6 @@ needed-add n m = omega arith
 pub needed-both : (n m : ℕ) → needed (needed n + needed m) ≡ needed (n + m)
 unfolding needed
 needed-both n m = omega arith
-
--- ---- the lengths of numbers
-
--- ten, and ten times as much k times
-unfoldable pub tens : ℕ → ℕ
-tens zero = 10
-tens (suc k) = tens k * 10
-
-pub decimal-length-below : (k n : ℕ) → n < tens k → length (decimal n) ≤ suc k
-unfolding tens
-decimal-length-below zero n h = omega (arith, decimal-length-small n h)
-decimal-length-below (suc k) n h = cases (decLt n 10) (decimal-length-below k (n / 10))
-  where
-    cases : Dec (n < 10) → (n / 10 < tens k → length (decimal (n / 10)) ≤ suc k) → length (decimal n) ≤ suc (suc k)
-    cases (yes l) f = omega (arith, decimal-length-small n l)
-    cases (no l) f = omega (arith, decimal-length-big n (omega arith), f (omega arith))
-
-pub count-length-most : (n : ℕ) → n < 2 ^ 64 → length (decimal n) ≤ 20
-unfolding tens
-count-length-most n h = decimal-length-below 19 n (omega arith)
-
--- nineteen digits, and a sign
-pub number-length-most : (z : ℤ) → SFits w64 z → length (integerText z) ≤ 20
-unfolding tens
-number-length-most (pos n) f = omega (arith, decimal-length-below 18 n (omega (arith, f .sfits)))
-number-length-most (negsuc n) f = omega (arith, decimal-length-below 18 (suc n) (omega (arith, f .sfits)))
 
 -- ---- the first n of a list
 

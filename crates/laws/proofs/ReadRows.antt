@@ -63,9 +63,9 @@ unfolding Limited
 limited-more first (none e) h = tt
 limited-more first (got c n) h = h
 
-code-half : (negative : Bool) (v : ℕ) → indexOf (codeOf negative v) ≡ v
-code-half true v = omega arith
-code-half false v = omega arith
+pub index-of-code : (negative : Bool) (v : ℕ) → indexOf (codeOf negative v) ≡ v
+index-of-code true v = omega arith
+index-of-code false v = omega arith
 
 index-limited : (first n v : ℕ) → index first n ≡ accept v → Within first v
 unfolding index
@@ -84,7 +84,7 @@ limited-code : (first : ℕ) (negative : Bool) (n : ℕ) (c : Checked ℕ) → (
     → Limited first (codeBy negative n c)
 unfolding Limited
 limited-code first negative n (refuse e) f = tt
-limited-code first negative n (accept v) f = rw (code-half negative v) (f v refl)
+limited-code first negative n (accept v) f = rw (index-of-code negative v) (f v refl)
 
 module _ (o : Options) where
   limited-digits : (negative : Bool) (s : List ℕ) → Limited (o .first) (digits o negative s)

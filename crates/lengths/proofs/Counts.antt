@@ -6,11 +6,8 @@ use native.Mathlib.Decide.{decLt}
 use native.Mathlib.Numerals.{add-one}
 use lib.ListN.{length}
 use Rattle.definitions.specs.Number.{decimal}
-use Rattle.definitions.proofs.Numbers.{decimal-length-small, decimal-length-big, decimal-some}
-
-unfoldable pub tens : ℕ → ℕ
-tens zero = 1
-tens (suc n) = tens n * 10
+use Rattle.laws.proofs.Digits.{tens, no-longer}
+use Rattle.definitions.proofs.Numbers.{decimal-length-big, decimal-some}
 
 tens-some : (n : ℕ) → 0 < tens n
 unfolding tens
@@ -29,15 +26,6 @@ longer (suc n) m h =
     let g : 10 ≤ m = omega (arith, tens-some n) in
     let r = longer n (m / 10) (omega arith) in
     omega (arith, decimal-length-big m g)
-
-no-longer : (n m : ℕ) → m < tens (suc n) → length (decimal m) ≤ suc n
-unfolding tens
-no-longer zero m h = omega (arith, decimal-length-small m (omega arith))
-no-longer (suc n) m h = cases (decLt m 10) (no-longer n (m / 10) (omega arith))
-  where
-    cases : Dec (m < 10) → length (decimal (m / 10)) ≤ suc n → length (decimal m) ≤ suc (suc n)
-    cases (yes l) r = omega (arith, decimal-length-small m l)
-    cases (no l) r = omega (arith, decimal-length-big m (omega arith))
 
 -- so many digits at least, and the least number that has one more
 pub record Counting (m n power : ℕ) : Type 0 where
@@ -85,7 +73,3 @@ module _ (m n power : ℕ) (w : Counting m n power) where
       counting-more =
           let more : power * 10 ≡ tens n * 10 = ap (λ (p : ℕ). p * 10) (w .is) in
           rw add-one (record { is = more; some = omega arith; most = omega (arith, before-last); least = omega (arith, one-more) })
-
-pub decimal-short : (m : ℕ) → m < 2 ^ 64 → length (decimal m) ≤ 20
-unfolding tens
-decimal-short m h = no-longer 19 m (omega arith)

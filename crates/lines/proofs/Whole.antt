@@ -18,6 +18,7 @@ use Rattle.definitions.specs.Write.{weighs, numbered, bounded}
 use Rattle.definitions.specs.Back.{isGoal}
 use Rattle.definitions.specs.declared.Mode.{Mode}
 use Rattle.definitions.proofs.Columns.{joined-append}
+use Rattle.definitions.proofs.Truths.{both}
 use Rattle.laws.proofs.Puts.{Puts, puts-as}
 use Rattle.puts.specs.Each.{LandsEach}
 use Rattle.puts.proofs.Each.{allOf, each-puts}
@@ -29,7 +30,6 @@ use Rattle.printed.specs.Kinds.{styleOf}
 use Rattle.shown.specs.Terms.{literalWords, termWords, spacedBy, fallen, shownText, termsText, ownTerms}
 use Rattle.shown.specs.Sums.{noSums, sumsWith, summed}
 use Rattle.printed.specs.Rows.{rowOn, operatorText}
-use Rattle.printed.proofs.Tests.{and-left, and-right}
 use Rattle.shown.proofs.OneTerm.{spaced-words}
 use Rattle.printed.proofs.PrintedRows.{bound-by-sums}
 use Rattle.printed.proofs.Texts.{constraint-text, objective-text}
@@ -63,15 +63,15 @@ module _ (s : Style) where
       let a = isAccepted (fileNumber (s .first) (indexOf (t .code))) in
       all-append (shownPieces s (shownOf s t)) (termsPieces s ts)
       ∙ ap₂ (λ (x y : List ℕ). x ++ y)
-      (shown-all t (and-left (nonNeg (t .weight)) (weighs ts) w) (and-left a (numbered (s .first) ts) n))
-      (terms-all ts (and-right (nonNeg (t .weight)) (weighs ts) w) (and-right a (numbered (s .first) ts) n))
+      (shown-all t (both (nonNeg (t .weight)) (weighs ts) w .0) (both a (numbered (s .first) ts) n .0))
+      (terms-all ts (both (nonNeg (t .weight)) (weighs ts) w .1) (both a (numbered (s .first) ts) n .1))
 
   sums-are : (a : Sums) (ts : List Term) → weighs ts ≡ true → sumsOf s a ts ≡ summed s a ts
   unfolding sumsOf summed weighs
   sums-are a [] w = refl
   sums-are a (t ∷ ts) w =
-      rw (and-left (nonNeg (t .weight)) (weighs ts) w)
-      (sums-are (sumsWith a (t .weight) (fallen s t)) ts (and-right (nonNeg (t .weight)) (weighs ts) w))
+      rw (both (nonNeg (t .weight)) (weighs ts) w .0)
+      (sums-are (sumsWith a (t .weight) (fallen s t)) ts (both (nonNeg (t .weight)) (weighs ts) w .1))
 
 -- ---- what stands behind the terms
 

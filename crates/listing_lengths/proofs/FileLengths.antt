@@ -20,7 +20,8 @@ use Rattle.definitions.specs.declared.Options.{Options}
 use Rattle.definitions.proofs.Walks.{At, at-start, at-stop, at-bad, at-item}
 use Rattle.definitions.proofs.Statements.{LineTaken, statement-moves, statement-taken}
 use Rattle.definitions.proofs.Columns.{joined-snoc}
-use Rattle.laws.proofs.Puts.{needed-add, count-length-most}
+use Rattle.laws.proofs.Digits.{count-length-most}
+use Rattle.laws.proofs.Puts.{needed-add, needed-word}
 use Rattle.definitions.proofs.Truths.{never}
 use Rattle.definitions.specs.declared.Entry.{Entry}
 use Rattle.columns.specs.Kinds.{termsOfKind}
@@ -179,10 +180,6 @@ accepted-sizes : (first : ℕ) (x : Outcome (List Line)) (z : Sizes) → accepte
 accepted-sizes first (refused r) z e = never (cc)
 accepted-sizes first (accepted ls) z e = record { found = ls; are = refl; sizes = cc }
 
-uncut : (n : ℕ) → n < 2 ^ 64 → needed n ≡ n
-unfolding needed
-uncut n h = omega arith
-
 -- the line of a refusal is short
 refusal-needed : (n p : ℕ) → n < 2 ^ 64 → p < 2 ^ 64 → length (refusedLine (refusal n p)) ≡ needed (length (refusedLine (refusal n p)))
 unfolding needed
@@ -211,7 +208,7 @@ module _ (o : Options) (s : List ℕ) (t : Table) where
     unfolding listing reading fitted
     rows-listed f h q =
         q ∙ refusal-needed 9 (z .rows) (omega arith) f
-        ∙ rw (was .are, lt-leb (length (was .found)) (rowRoom t) (omega (arith, rows-found)), ← rows-found, uncut (z .rows) f)
+        ∙ rw (was .are, lt-leb (length (was .found)) (rowRoom t) (omega (arith, rows-found)), ← rows-found, needed-word (z .rows) f)
 
     pub terms-listed : z .terms < 2 ^ 64 → z .rows ≤ rowRoom t → termRoom t < z .terms → w ≡ length (refusedLine (refusal 10 (z .terms)))
         → w ≡ needed (length (listing (o .first) (reading o s t)))
@@ -223,7 +220,7 @@ module _ (o : Options) (s : List ℕ) (t : Table) where
           le-leb (length (was .found)) (rowRoom t) (omega (arith, rows-found)),
           lt-leb (length (allTerms (was .found))) (termRoom t) (omega (arith, terms-found)),
           ← terms-found,
-          uncut (z .terms) f,
+          needed-word (z .terms) f,
         )
 
     pub text-listed : z .rows ≤ rowRoom t → z .terms ≤ termRoom t

@@ -50,7 +50,7 @@ said-lit lit.OutOfRange lit.OutOfRange e = refl
 same-var : (r r' : Var) → r .0 ≡ r' .0 → r ≡ r'
 same-var r r' e = ap (λ (n : ℕ). record { 0 = n }) e
 
-same-lit : (r r' : Lit) → r .0 ≡ r' .0 → r ≡ r'
+pub same-lit : (r r' : Lit) → r .0 ≡ r' .0 → r ≡ r'
 same-lit r r' e = ap (λ (n : ℕ). record { 0 = n }) e
 
 -- ---- the functions

@@ -17,6 +17,7 @@ use Rattle.definitions.specs.Back.{linesBack}
 use Rattle.definitions.specs.declared.Mode.{Mode}
 use Rattle.definitions.specs.declared.Kind.{Kind}
 use Rattle.definitions.specs.declared.Kind.the-variants.{AtLeast as atLeast, AtMost as atMost, Equal as equal, Objective as objective}
+use Rattle.definitions.proofs.Truths.{both}
 use Rattle.term_checks.proofs.Terms.{terms-count}
 use Rattle.shown.specs.declared.terms.Style.{Style}
 use Rattle.measures.specs.declared.terms.Tally.{Tally}
@@ -28,7 +29,6 @@ use Rattle.measures.specs.Tallies.{noTally, tallied}
 use Rattle.printed.specs.Bounds.{printedBound}
 use Rattle.printed.specs.Rows.{rowOn}
 use Rattle.measures.specs.Rows.{measured, rowMeasured, frameText, lacksTerms, framed, countedLength}
-use Rattle.printed.proofs.Tests.{and-right}
 use Rattle.measures.proofs.Tallies.{counted, tallied-is, counted-sums, counted-numbered, counted-length}
 use Rattle.printed.proofs.PrintedRows.{bound-by-sums}
 use Rattle.measures.proofs.Frames.{row-text-length}
@@ -119,7 +119,7 @@ module _ (shape : Shape) (ws : List ℤ) (cs : List ℕ) (long : length ws ≡ l
     pub measured-counted : countedLength shape (length cs) t ≡ rowMeasured m whole
     unfolding countedLength rowMeasured rowAllowed
     measured-counted =
-        let w = and-right (indexed terms) (weighs terms) (lawful-all .0) in
+        let w = both (indexed terms) (weighs terms) (lawful-all .0) .1 in
         rw (
           lawful-all .0,
           lacks-is (shape .kind) terms (length cs) (own-count (shape .unit) ws cs long),

@@ -1,7 +1,7 @@
 -- What the first walk counts is what the definitions ask of the row: 11 of its terms, their file numbers, the sums of
 -- their weights, the length of their text.
 use mathlib.Core.Path.{_≡_, refl, sym, _∙_}
-use mathlib.Core.Bool.{Bool, true, false, cond, _&&_}
+use mathlib.Core.Bool.{Bool, true, false, cond, _&&_, and-true, and-assoc}
 use mathlib.Core.List.{List, [], _∷_}
 use Prim.Native.Nat.{_+_, _≤_}
 use native.Mathlib.Omega.{arith}
@@ -14,10 +14,10 @@ use Rattle.definitions.specs.Literal.{indexOf, isIndex}
 use Rattle.definitions.specs.Row.{Term}
 use Rattle.definitions.specs.Table.{indexed}
 use Rattle.definitions.specs.Write.{weighs, numbered}
+use Rattle.definitions.proofs.Truths.{both}
 use Rattle.shown.specs.declared.terms.Style.{Style}
 use Rattle.measures.specs.declared.terms.Tally.{Tally}
 use Rattle.shown.specs.Terms.{shownText, termsText}
-use Rattle.printed.proofs.Tests.{and-true, and-left, and-right, and-assoc}
 use Rattle.shown.specs.Sums.{summed}
 use Rattle.measures.specs.Tallies.{hasNumber, tallyWith, tallied}
 
@@ -59,7 +59,7 @@ module _ (s : Style) where
   unfolding counted numbered tallyWith termsText joined needed
   counted-length a [] h e = omega arith
   counted-length a (t ∷ ts) h e =
-      let n = and-left (hasNumber s t) (numbered (s .first) ts) e in
+      let n = both (hasNumber s t) (numbered (s .first) ts) e .0 in
       let l : tallyWith s a t .length ≡ needed (a .length + length (shownText s t)) = rw n in
-      counted-length (tallyWith s a t) ts (omega (arith, l)) (and-right (hasNumber s t) (numbered (s .first) ts) e)
+      counted-length (tallyWith s a t) ts (omega (arith, l)) (both (hasNumber s t) (numbered (s .first) ts) e .1)
       ∙ omega (arith, l, length-append (shownText s t) (termsText s ts))

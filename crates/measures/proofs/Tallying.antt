@@ -1,6 +1,6 @@
 -- The first walk over a row's terms: one term more, and the end.
 use mathlib.Core.Path.{_≡_, refl, sym, ap, ap₂, _∙_}
-use mathlib.Core.Bool.{Bool, true, false, _&&_}
+use mathlib.Core.Bool.{Bool, true, false, _&&_, and-false, and-true}
 use mathlib.Core.List.{List, _∷_}
 use Prim.Native.Nat.{ℕ, _+_, _≤_, _<_}
 use native.Mathlib.Omega.{arith}
@@ -12,12 +12,12 @@ use Rattle.definitions.specs.Refusal.{refuse, accept, needed}
 use Rattle.definitions.specs.Literal.{indexOf, isIndex, fileNumber}
 use Rattle.definitions.specs.Row.{Term, term}
 use Rattle.definitions.specs.Write.{isAccepted}
+use Rattle.definitions.proofs.Truths.{both}
 use Rattle.shown.specs.declared.terms.Style.{Style}
 use Rattle.shown.specs.declared.terms.Shown.{Shown}
 use Rattle.shown.specs.declared.sums.Sums.{Sums}
 use Rattle.shown.specs.Terms.{ownTerm, ownTerms, Shows, termWords, shownText}
 use Rattle.shown.specs.Sums.{sumsWith}
-use Rattle.printed.proofs.Tests.{and-false, and-true, and-right}
 use Rattle.shown.proofs.OneTerm.{spaced-words, spaced-length, shown-falls}
 use Rattle.shown.proofs.AllTerms.{own-from, own-end}
 use Rattle.measures.specs.declared.terms.Tally.{Tally}
@@ -34,7 +34,7 @@ others-lawful b (pos n) t = and-true b
 others-lawful b (negsuc n) t = let z : _≡_ {A = ℕ} 0 1 = cc in absurd (omega arith)
 
 lawful-weighs : (t : Term) → lawful t ≡ true → nonNeg (t .weight) ≡ true
-lawful-weighs t e = and-right (isIndex (indexOf (t .code))) (nonNeg (t .weight)) e
+lawful-weighs t e = both (isIndex (indexOf (t .code))) (nonNeg (t .weight)) e .1
 
 -- ---- what is counted of a term
 

@@ -17,6 +17,7 @@ use Rattle.definitions.specs.Table.{Table, table, termsAt, inColumn, sortOf, ki
 use Rattle.definitions.specs.declared.Entry.{Entry}
 use Rattle.definitions.specs.Normal.{moved, totalBy, normalTerm, rise, normal, normalLine, normalIn}
 use Rattle.definitions.proofs.Accepted.{passed}
+use Rattle.definitions.proofs.Truths.{both}
 use Rattle.term_checks.specs.Parts.{codesIndexed, weightSizes}
 use Rattle.term_checks.proofs.Terms.{weightsAt, literalsAt, terms-at, weights-at-count, literals-at-count, terms-at-count}
 use Rattle.term_checks.proofs.Terms.{indexed-at, sizes-at}
@@ -100,10 +101,6 @@ module _ (ws : List ℤ) (cs : List ℕ) (e : Entry) where
           by false d = refl
 
 -- ---- what an accepted entry has
-
-both : (d e : Bool) → d && e ≡ true → (d ≡ true) × (e ≡ true)
-both true e q = (refl, q)
-both false e q = let z : _≡_ {A = ℕ} 0 1 = cc in absurd (omega arith)
 
 not-refused : {A : Type 0} {x : Checked A} {n : ℕ} {y : A} → x ≡ refuse n → x ≡ accept y → ⊥
 not-refused p q = let z : _≡_ {A = ℕ} 0 1 = cc in omega arith

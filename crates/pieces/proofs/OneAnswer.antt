@@ -6,7 +6,7 @@ use Rattle.definitions.specs.Refusal.{faultAt, faultOf}
 use Rattle.definitions.specs.Row.{Term, term}
 use Rattle.definitions.proofs.Truths.{never}
 use Rattle.literals.specs.declared.Lit.{Lit}
-use Rattle.literal_read.proofs.OneAnswer.{same-lit}
+use Rattle.literals.proofs.OneAnswer.{same-lit}
 use Rattle.pieces.specs.Said.{saidTerm, saidNext}
 use Rattle.pieces.specs.declared.term.TermRead.{TermRead}
 use Rattle.pieces.specs.declared.term.NextTerm.{NextTerm}

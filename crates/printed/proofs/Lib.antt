@@ -1,4 +1,3 @@
-pub mod Tests
 pub mod Sorts
 pub mod Differences
 pub mod PrintedRows

@@ -1,6 +1,6 @@
 -- One row of the table: what its kind and its terms say to the code is what the definitions say.
 use mathlib.Core.Path.{_≡_, refl, ap}
-use mathlib.Core.Bool.{Bool, true, cond, _&&_}
+use mathlib.Core.Bool.{Bool, true, cond, _&&_, and-true, and-false}
 use mathlib.Core.List.{List, [], _∷_, map, map-id}
 use Prim.Native.Nat.{ℕ, _+_, _-_}
 use native.Mathlib.Omega.{arith}
@@ -16,13 +16,13 @@ use Rattle.definitions.specs.Write.{unitTerm, weighs, Item, line, itemBy, itemI
 use Rattle.definitions.specs.declared.Mode.{Mode}
 use Rattle.definitions.specs.declared.Kind.{Kind}
 use Rattle.definitions.specs.declared.Kind.the-variants.{AtLeast as atLeast}
+use Rattle.definitions.proofs.Accepted.{indexed-units}
 use Rattle.term_checks.proofs.Terms.{terms-at}
 use Rattle.printed.specs.declared.kinds.Sort as said
 use Rattle.printed.specs.declared.kinds.Sort.the-variants.{Comment, Row, Refused}
 use Rattle.printed.specs.Kinds.{weightedSort, cardinalitySort, sortSaid}
 use Rattle.shown.specs.Terms.{ownTerm, ownTerms}
 use Rattle.printed.specs.Rows.{entryOf, onColumns}
-use Rattle.printed.proofs.Tests.{and-true, and-false}
 
 -- ---- where the row stands
 
@@ -42,11 +42,6 @@ itemFor (Row s) t text e =
     (accept (line (rowOf (s .kind) (s .bound) (map (ownTerm (s .unit)) (termsAt t e))))) (refuse 11)
 itemFor Refused t text e = refuse 11
 
-unit-indexed : (ts : List Term) → indexed (map unitTerm ts) ≡ indexed ts
-unfolding indexed unitTerm
-unit-indexed [] = refl
-unit-indexed (t ∷ ts) = rw (unit-indexed ts)
-
 unit-weighs : (ts : List Term) → weighs (map unitTerm ts) ≡ true
 unfolding weighs unitTerm
 unit-weighs [] = refl
@@ -58,7 +53,7 @@ module _ (t : Table) (text : List ℕ) (e : Entry) where
 
   unit-item : (k : Kind) (b : ℤ) → cond (inColumn t e && indexed terms) (accept (line (rowOf k b (map unitTerm terms)))) (refuse 11)
       ≡ itemFor (Row (record { kind = k; unit = true; bound = b })) t text e
-  unit-item k b = rw (unit-indexed terms, unit-weighs terms, and-true (indexed terms))
+  unit-item k b = rw (indexed-units terms, unit-weighs terms, and-true (indexed terms))
 
   cardinality-item : (k : Kind) (b : ℤ)
       → cond (inColumn t e && (indexed terms && nonNeg b)) (accept (line (rowOf k b (map unitTerm terms)))) (refuse 11)

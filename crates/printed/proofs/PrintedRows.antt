@@ -22,13 +22,13 @@ use Rattle.definitions.specs.declared.Kind.the-variants.{AtLeast as atLeast, At
 use Rattle.definitions.specs.Back.{isGoal}
 use Rattle.definitions.proofs.MeansBack.{shownKind}
 use Rattle.definitions.proofs.Whole.{up-pos, dn-pos, up-neg, dn-neg, sum-is, diff-is, same}
+use Rattle.definitions.proofs.Truths.{both}
 use Rattle.term_checks.specs.Sizes.{capped}
 use Rattle.shown.specs.declared.terms.Style.{Style}
 use Rattle.printed.specs.Kinds.{isAtMost}
 use Rattle.shown.specs.Terms.{flippedCode, flippedTerm, plainedTerm, shownTerm, fallen}
 use Rattle.printed.specs.Bounds.{within, boundBefore, boundAfter, printedBound}
 use Rattle.shown.specs.Sums.{noSums, summed}
-use Rattle.printed.proofs.Tests.{and-left, and-right}
 use Rattle.printed.proofs.Differences.{fallen-is}
 use Rattle.shown.proofs.WeightSums.{fallSize, falls, falls-most, summed-total, summed-fall}
 
@@ -42,8 +42,8 @@ pub weighs-total : (ts : List Term) → weighs ts ≡ true → totalBy weightOf 
 unfolding totalBy weighs sizes
 weighs-total [] e = refl
 weighs-total (t ∷ ts) e =
-    ap₂ (λ (x y : ℤ). x +ℤ y) (nonNeg-is (t .weight) (and-left (nonNeg (t .weight)) (weighs ts) e))
-    (weighs-total ts (and-right (nonNeg (t .weight)) (weighs ts) e))
+    ap₂ (λ (x y : ℤ). x +ℤ y) (nonNeg-is (t .weight) (both (nonNeg (t .weight)) (weighs ts) e .0))
+    (weighs-total ts (both (nonNeg (t .weight)) (weighs ts) e .1))
 
 -- a style in no-negated mode
 module _ (s : Style) (p : s .plain ≡ true) where
@@ -73,8 +73,8 @@ module _ (s : Style) (p : s .plain ≡ true) where
   unfolding totalBy weighs falls
   fall-total [] e = refl
   fall-total (t ∷ ts) e =
-      ap₂ (λ (x y : ℤ). x +ℤ y) (fall-one t (and-left (nonNeg (t .weight)) (weighs ts) e))
-      (fall-total ts (and-right (nonNeg (t .weight)) (weighs ts) e))
+      ap₂ (λ (x y : ℤ). x +ℤ y) (fall-one t (both (nonNeg (t .weight)) (weighs ts) e .0))
+      (fall-total ts (both (nonNeg (t .weight)) (weighs ts) e .1))
       ∙ negative-sum (fallSize s t) (falls s ts)
     where
       negative-sum : (n m : ℕ) → negℤ (pos n) +ℤ negℤ (pos m) ≡ negℤ (pos (n + m))

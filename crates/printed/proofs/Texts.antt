@@ -20,7 +20,7 @@ use Rattle.shown.specs.declared.terms.Style.{Style}
 use Rattle.printed.specs.Kinds.{isAtMost, isEqual}
 use Rattle.shown.specs.Terms.{shownTerm, spacedBy, shownText, termsText}
 use Rattle.printed.specs.Rows.{operatorText}
-use Rattle.printed.proofs.Tests.{not-both}
+use Rattle.definitions.proofs.Truths.{one-truth}
 use Rattle.printed.proofs.PrintedRows.{printed-terms}
 
 -- ---- an offset
@@ -58,13 +58,13 @@ module _ (z : ℤ) where
 module _ (n : ℕ) (t : Term) where
   spaced-is : (b : Bool) → b ≡ false → spaced n t ≡ spacedBy b (termText n t)
   unfolding spaced
-  spaced-is true e = not-both refl e
+  spaced-is true e = absurd (one-truth true refl e)
   spaced-is false e = refl
 
   apart-is : (b : Bool) → b ≡ true → apart n t ≡ spacedBy b (termText n t)
   unfolding apart
   apart-is true e = refl
-  apart-is false e = not-both e refl
+  apart-is false e = absurd (one-truth false e refl)
 
 module _ (s : Style) where
   terms-spaced : s .apart ≡ false → (ts : List Term) → joined (spaced (s .first)) (map (shownTerm s) ts) ≡ termsText s ts
@@ -95,7 +95,7 @@ module _ (k : Kind) (b : ℤ) (ts : List Term) (s : Style) (f : s .flip ≡ isAt
       cases atLeast o e = rw e
       cases atMost o e = rw e
       cases equal o e = rw e
-      cases objective o e = not-both refl o
+      cases objective o e = absurd (one-truth true refl o)
 
   pub objective-text : isGoal k ≡ true
       → rowText (s .first) line-of ≡ minText ++ (termsText s ts ++ (closed ++ offsetText (line-of .bound)))
@@ -104,7 +104,7 @@ module _ (k : Kind) (b : ℤ) (ts : List Term) (s : Style) (f : s .flip ≡ isAt
       cases : (k : Kind) → isGoal k ≡ true → joined (apart (s .first)) (map (shownTerm s) ts) ≡ termsText s ts
           → textBy (shownKind k) (s .first) (line-of .bound) (map (shownTerm s) ts)
           ≡ minText ++ (termsText s ts ++ (closed ++ offsetText (line-of .bound)))
-      cases atLeast o e = not-both o refl
-      cases atMost o e = not-both o refl
-      cases equal o e = not-both o refl
+      cases atLeast o e = absurd (one-truth false o refl)
+      cases atMost o e = absurd (one-truth false o refl)
+      cases equal o e = absurd (one-truth false o refl)
       cases objective o e = rw e

@@ -20,13 +20,11 @@ use Rattle.definitions.proofs.ThereAndBack.{there-and-back}
 use Rattle.reader.specs.Reads.{Reads}
 use Rattle.definitions.specs.declared.Counted.{Counted}
 use Rattle.definitions.specs.declared.Length.{Length}
+use Rattle.definitions.proofs.Truths.{never}
 use Rattle.writer.specs.Writes.{Writes}
 use Rattle.foreseen.specs.Returning.{unwritten, unread, back, readBack, returning}
 use Rattle.promise.specs.Returns.{outputKept, tablesAfter, Returns}
 use Rattle.foreseen.specs.declared.Returned.the-variants.{NotWritten, NotRead, Back}
-
-never {ℓ} : {X : Type ℓ} → _≡_ {A = ℕ} 0 1 → X
-never z = absurd (omega arith)
 
 -- ---- what is left behind
 

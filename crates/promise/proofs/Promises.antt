@@ -1,5 +1,5 @@
 -- Everything that a user relies on, in one file. Each promise has its sentence in plain words and a proof of one line,
--- which cites the work. What the words mean: crates/definitions/specs.
+-- which cites the work. What the words mean: crates/definitions/specs, and crates/document/specs for the OPB document.
 use Prim.Native.Nat.{ℕ, _≤_, _<_}
 use mathlib.Core.Path.{_≡_, sym, _∙_}
 use mathlib.Core.Logic.{_⊎_}
@@ -12,7 +12,8 @@ use Rattle.definitions.specs.Limits.{fileLimit}
 use Rattle.definitions.specs.Refusal.{refusal}
 use Rattle.definitions.specs.declared.Refusal.{Refusal}
 use Rattle.definitions.specs.Row.{Line}
-use Rattle.definitions.specs.Table.{Table, refused, accepted}
+use Rattle.definitions.specs.Table.{Table, refused, accepted, entries, rowByRow}
+use Rattle.definitions.specs.Write.{Item, writtenIn, writing}
 use Rattle.definitions.specs.File.{file}
 use Rattle.definitions.specs.Meaning.{Assignment, assigned, isKnown}
 use Rattle.definitions.specs.Values.{formOf, valuing, newLength, valuesAfter, knownAfter}
@@ -20,10 +21,13 @@ use Rattle.definitions.specs.declared.Form.the-variants.{SignedNumbers, XTokens
 use Rattle.definitions.specs.declared.Options.{Options}
 use Rattle.definitions.specs.declared.Mode.{Mode}
 use Rattle.definitions.proofs.Answers.{counted-known}
+use Rattle.document.specs.DocumentWritten.{forDocument, InOrder, WrittenDocument}
 use Rattle.reader.specs.Reads.{Reads}
 use Rattle.reader.proofs.parse_opb_data.Reads as parse-opb-data
 use Rattle.writer.specs.Writes.{Writes}
 use Rattle.writer.proofs.write_opb_lines.Reads as write-opb-lines
+use Rattle.house.specs.Lists.{Lists}
+use Rattle.house.proofs.list_table.Reads as list-table
 use Rattle.normaliser.specs.Normalises.{Normalises}
 use Rattle.normaliser.proofs.normalise.Reads as normalise
 use Rattle.evaluator.proofs.evaluate.Reads as evaluate
@@ -48,6 +52,12 @@ pub writing-as-defined : (κs : _) (a : _) (r : _) (s : _) → write-opb-lines.P
     → Writes (a .1 .1 .1 .1 .1 .1 .1 .0) (columns a) (now (a .1 .1 .1 .1 .1 .1 .0)) (now (a .1 .1 .1 .1 .1 .1 .1 .1 .0)) r
     (now (s .1 .1 .1 .1 .1 .1 .1 .1 .0))
 writing-as-defined κs a r s p = p
+
+-- Listing a table's first rows: answer and output afterwards are those of `listingTable`. A refused call changes no byte.
+pub listing-as-defined : (κs : _) (a : _) (r : _) (s : _) → list-table.Post κs a r s
+    → Lists (a .1 .1 .1 .1 .1 .1 .1 .0) (a .1 .1 .1 .1 .1 .1 .0) (columns a) (now (a .1 .1 .1 .1 .1 .1 .1 .1 .0)) r
+    (now (s .1 .1 .1 .1 .1 .1 .1 .1 .0))
+listing-as-defined κs a r s p = p
 
 -- Normalising: answer and columns afterwards are those of `normalising`.
 pub normalising-as-defined : (κs : _) (a : _) (r : _) (s : _) → normalise.Post κs a r s
@@ -133,6 +143,14 @@ same-answers = Rattle.definitions.proofs.SameAnswers.same-answers
 pub document-read : (f : Rattle.document.specs.Document.File) → Rattle.document.specs.Document.WellFormed f
     → Rattle.document.specs.DocumentRead.WithinLimits f → Rattle.document.proofs.OpbDocument.DocumentRead f
 document-read = Rattle.document.proofs.OpbDocument.document-read
+
+-- What is written for the OPB document (first index 1, no-negated mode, its header first and its objective before the
+-- constraints) lies in the document's grammar, but for one space before the `;` of an objective, and means what was asked
+-- for.
+pub document-written : (t : Table) (text : List ℕ) (room : ℕ) (is : List Item) (s : List ℕ)
+    → rowByRow (writtenIn forDocument t text) 0 (entries t) ≡ accepted is → writing forDocument t text room ≡ accepted s
+    → (o : InOrder is) → WrittenDocument o s
+document-written = Rattle.document.proofs.WrittenDocument.written-document
 
 -- A block of value lines that is accepted: what was known stays known, with its value.
 pub known-stays : (b : List ℕ) (n : ℕ) (ws ks cs : List ℕ) → valuing b n ws ks ≡ accepted cs → (v : ℕ) → isKnown ws ks v ≡ true

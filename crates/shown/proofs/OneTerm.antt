@@ -2,9 +2,9 @@
 use mathlib.Core.Path.{_≡_, refl, sym, ap, _∙_}
 use mathlib.Core.Bool.{Bool, true, false, cond}
 use mathlib.Core.List.{List, [], _∷_, _++_}
-use Prim.Native.Nat.{ℕ, _+_, _%_, _≤_, _<_, _^_, zero, suc}
+use Prim.Native.Nat.{ℕ, _+_, _<_, zero, suc}
 use native.Mathlib.Omega.{arith}
-use borrow.Author.Tests.{ne-eqb, ltb-true}
+use borrow.Author.Tests.{ltb-true}
 use lib.IntN.{ℤ, pos, negsuc, negℤ, _-ℤ_, +ℤ-idl}
 use lib.Signed.{ltZ, nonNeg}
 use mir.Syntax.{w64}
@@ -15,8 +15,7 @@ use Rattle.definitions.specs.Literal.{indexOf, negated, plain}
 use Rattle.definitions.specs.Number.{decimal, integerText}
 use Rattle.definitions.specs.Row.{Term, term}
 use Rattle.definitions.specs.Write.{flipTerm, plainTerm, unitTerm, termText, literalText, numberText}
-use Rattle.definitions.proofs.Numbers.{decimal-length-most}
-use Rattle.definitions.proofs.Meanings.{opposite-half, plain-half}
+use Rattle.definitions.proofs.Meanings.{opposite-half, plain-half, plain-not-negated}
 use Rattle.literals.specs.declared.Var.{Var}
 use Rattle.shown.specs.declared.terms.Style.{Style}
 use Rattle.shown.specs.declared.terms.Shown.{Shown}
@@ -30,10 +29,6 @@ flipped-is : (flip : Bool) (w : ℤ) (c : ℕ) → flippedTerm flip (term w c) �
 unfolding flipTerm
 flipped-is true w c = refl
 flipped-is false w c = refl
-
-plain-not-negated : (c : ℕ) → negated (plain c) ≡ false
-unfolding plain
-plain-not-negated c = ne-eqb ((plain c) % 2) 1 (λ e. omega arith)
 
 pub own-term : (unit : Bool) (w : ℤ) (c : ℕ) → term (ownWeight unit w) c ≡ ownTerm unit (term w c)
 unfolding unitTerm
@@ -154,11 +149,6 @@ module _ (t : Shown) (n : ℕ) where
 pub spaced-length : (before : Bool) (s : List ℕ) → length (spacedBy before s) ≡ length s + 1
 spaced-length true s = omega arith
 spaced-length false s = length-append s (space ∷ [])
-
--- no text of a weight is longer than its size
-pub weight-length-most : (z : ℤ) → SFits w64 z → length (integerText z) ≤ 2 ^ 63 + 2
-weight-length-most (pos n) f = omega (arith, decimal-length-most n, f .sfits)
-weight-length-most (negsuc n) f = omega (arith, decimal-length-most (suc n), f .sfits)
 
 -- ---- the text of a term of the row, whose file number is known
 

@@ -19,6 +19,7 @@ use Rattle.definitions.specs.declared.Beginning.the-variants.{Comment, Objectiv
 use Rattle.definitions.proofs.Chains.{chain-linked}
 use Rattle.definitions.proofs.Statements.{finished-got, remark-taken}
 use Rattle.definitions.proofs.Truths.{never}
+use Rattle.definitions.proofs.Stops.{after-is-no-stop}
 use Rattle.sums.specs.Met.{metTerms}
 use Rattle.sums.specs.Walked.{TermsPut}
 use Rattle.sums.proofs.MetTerms.{met-sum}
@@ -88,16 +89,10 @@ module _ (o : Options) where
   unfolding statement statementMet
   statement-met s l m e = at-met (blanks s) (drop (blanks s) s) l m e
 
-  -- at the end none are met
-  blanks-go-on : (k : ℕ) (g : Got Line) → afterBlanks k g ≡ stop → ⊥
-  blanks-go-on k (none e) q = never (cc)
-  blanks-go-on k (got (comment f n b) j) q = never (cc)
-  blanks-go-on k (got (row r) j) q = never (cc)
-
   at-stop-met : (k : ℕ) (s : List ℕ) → statementAt o k s ≡ stop → metAt o s ≡ []
   unfolding statementAt
   at-stop-met k [] e = refl
-  at-stop-met k (b ∷ s) e = absurd (blanks-go-on k (statementBy (begins (classOf b)) o (b ∷ s)) e)
+  at-stop-met k (b ∷ s) e = absurd (after-is-no-stop k (statementBy (begins (classOf b)) o (b ∷ s)) e)
 
   pub stop-met : (s : List ℕ) → statement o s ≡ stop → statementMet o s ≡ []
   unfolding statement statementMet

@@ -2,7 +2,7 @@
 -- behind its blanks.
 use Prim.Native.Nat.{ℕ, suc, _+_, _^_, _≤_, _<_}
 use mathlib.Core.Path.{_≡_, refl, sym, ap, _∙_}
-use mathlib.Core.Bool.{Bool, true, false, cond, _&&_}
+use mathlib.Core.Bool.{Bool, true, false, cond, _&&_, and-true}
 use mathlib.Core.List.{List, [], _∷_}
 use native.Mathlib.Omega.{arith}
 use native.Mathlib.Decide.{decLe}
@@ -41,10 +41,6 @@ use Rattle.definitions.proofs.Truths.{never}
 use Rattle.sums.proofs.Sums.{SumIs}
 
 -- ---- a row behind its sum
-
-and-true : (t : Bool) → t && true ≡ t
-and-true true = refl
-and-true false = refl
 
 -- a sum is above M where its capped size is
 capped-light : (n : ℕ) → leb (capped n) weightLimit ≡ leb n weightLimit

@@ -1,4 +1,4 @@
-// Standard input into a lent buffer, text to standard output and standard error: what the listing programs share. No
+// Standard input into a lent buffer, text to standard output and standard error: what programs share. No
 // contract can say which bytes are read or written; what is answered depends on the outside world, and lies within what
 // was lent. Each function ends, given that each read and write returns.
 use libc::STDERR_FILENO;

@@ -1,21 +1,14 @@
 -- The walk over codes with a test of each: after i codes that pass, those that are left decide.
 use mathlib.Core.Path.{_≡_, refl}
-use mathlib.Core.Bool.{Bool, true, false, _&&_}
+use mathlib.Core.Bool.{Bool, true, false}
 use mathlib.Core.List.{List, [], _∷_}
 use Prim.Native.Nat.{ℕ, zero, suc, _+_, _≤_, _<_}
 use native.Mathlib.Numerals.{add-one}
 use native.Mathlib.Omega.{arith}
 use lib.ListN.{length, getD, drop, drop-of-length-le}
 use lib.Seq.{drop-cons}
+use Rattle.definitions.proofs.Truths.{both}
 use Rattle.term_checks.specs.Parts.{every}
-
-pub both-left : (x y : Bool) → x && y ≡ true → x ≡ true
-both-left true y e = refl
-both-left false y e = e
-
-pub both-right : (x y : Bool) → x && y ≡ true → y ≡ true
-both-right true y e = e
-both-right false y e = absurd (let z : _≡_ {A = ℕ} 0 1 = cc in omega arith)
 
 module _ (p : ℕ → Bool) where
   pub every-end : (cs : List ℕ) (i : ℕ) → length cs ≤ i → every p (drop i cs) ≡ true
@@ -33,11 +26,11 @@ module _ (p : ℕ → Bool) where
   pub every-at : (cs : List ℕ) (i : ℕ) → every p cs ≡ true → i < length cs → p (getD cs i 0) ≡ true
   unfolding every
   every-at [] i e h = absurd (omega arith)
-  every-at (c ∷ cs) zero e h = both-left (p c) (every p cs) e
-  every-at (c ∷ cs) (suc i) e h = every-at cs i (both-right (p c) (every p cs) e) (omega arith)
+  every-at (c ∷ cs) zero e h = both (p c) (every p cs) e .0
+  every-at (c ∷ cs) (suc i) e h = every-at cs i (both (p c) (every p cs) e .1) (omega arith)
 
 -- a test that is less strict
 pub every-less : (p q : ℕ → Bool) → ((c : ℕ) → p c ≡ true → q c ≡ true) → (cs : List ℕ) → every p cs ≡ true → every q cs ≡ true
 unfolding every
 every-less p q f [] e = refl
-every-less p q f (c ∷ cs) e = rw (f c (both-left (p c) (every p cs) e)) (every-less p q f cs (both-right (p c) (every p cs) e))
+every-less p q f (c ∷ cs) e = rw (f c (both (p c) (every p cs) e .0)) (every-less p q f cs (both (p c) (every p cs) e .1))

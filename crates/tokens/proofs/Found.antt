@@ -5,7 +5,7 @@ use mathlib.Core.Bool.{Bool}
 use mathlib.Core.List.{List}
 use lib.ListN.{take, drop}
 use Rattle.definitions.proofs.Truths.{never}
-use Rattle.literals.specs.declared.Lit.{Lit}
+use Rattle.literals.proofs.OneAnswer.{same-lit}
 use Rattle.items.specs.Items.{Found, textAt, itemBy}
 use Rattle.items.specs.declared.NextItem.the-variants as item
 use Rattle.items.proofs.Found.{found-token, token-part}
@@ -32,9 +32,6 @@ step-token named block f p end i t r s q =
     ∙ ap (λ (n : ℕ). stepBy p n (tokenSays named (textAt block p))) e ∙ ap (stepAt named block) (m .0)
 
 -- ---- an answer is known by what it says
-same-lit : (l l' : Lit) → l .0 ≡ l' .0 → l ≡ l'
-same-lit l l' e = ap (λ (n : ℕ). record { 0 = n }) e
-
 pub said-next : (r r' : Next) → saidNext r ≡ saidNext r' → r ≡ r'
 said-next next.End next.End e = refl
 said-next next.End (next.Refused n p) e = never (cc)

@@ -16,14 +16,11 @@ use Rattle.definitions.specs.Meaning.{isTrue, assigned, isKnown}
 use Rattle.definitions.specs.Table.{Outcome, refused, accepted}
 use Rattle.definitions.specs.Values.{Item, untagged, token, among, conflicts, anyConflict, hear, literalsOf, held, lengthAfter, wordsFor}
 use Rattle.definitions.specs.declared.Form.{Form}
+use Rattle.definitions.proofs.Truths.{either}
 use Rattle.heard.proofs.Split.{never, among-snoc}
 use Rattle.values.proofs.Rows.{among-here, among-later, among-left, among-right}
 
 -- ---- one literal more
-
-or-cases : (a b : Bool) → a || b ≡ true → (a ≡ true) ⊎ (b ≡ true)
-or-cases true b h = inl refl
-or-cases false b h = inr h
 
 or-none : (a b : Bool) → a || b ≡ false → (a ≡ false) × (b ≡ false)
 or-none true b h = never h
@@ -39,7 +36,7 @@ unfolding opposite
 opposite-or-same c d e n = omega (arith, n)
 
 among-cases : (c : ℕ) (heard : List ℕ) (d : ℕ) → among c (heard ++ (d ∷ [])) ≡ true → (among c heard ≡ true) ⊎ (d ≡ c)
-among-cases c heard d h = pick (or-cases (among c heard) (eqb d c) (sym (among-snoc c heard d) ∙ h))
+among-cases c heard d h = pick (either (among c heard) (eqb d c) (sym (among-snoc c heard d) ∙ h))
   where
     pick : (among c heard ≡ true) ⊎ (eqb d c ≡ true) → (among c heard ≡ true) ⊎ (d ≡ c)
     pick (inl a) = inl a

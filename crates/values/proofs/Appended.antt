@@ -1,7 +1,6 @@
 -- The literals of a string of zeros and ones, and the length that they reach.
 use Prim.Native.Nat.{ℕ, _+_, _<_, max}
 use mathlib.Core.Path.{_≡_, ap, _∙_}
-use mathlib.Core.Bool.{Bool, true, false}
 use mathlib.Core.List.{List, [], _∷_, _++_}
 use native.Mathlib.Omega.{arith}
 use native.Mathlib.Numerals.{add-one}
@@ -10,10 +9,7 @@ use lib.ListN.{length, getD, take}
 use lib.Seq.{take-suc, length-take-le}
 use Rattle.definitions.specs.Literal.{codeOf, indexOf}
 use Rattle.definitions.specs.Values.{zeroDigit, lengthAfter, appended}
-
-pub index-of-code : (b : Bool) (v : ℕ) → indexOf (codeOf b v) ≡ v
-index-of-code true v = omega arith
-index-of-code false v = omega arith
+use Rattle.laws.proofs.ReadRows.{index-of-code}
 
 pub appended-append : (n : ℕ) (s t : List ℕ) → appended n (s ++ t) ≡ appended n s ++ appended (n + length s) t
 unfolding appended

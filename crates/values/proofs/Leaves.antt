@@ -3,7 +3,7 @@
 use Prim.Native.Nat.{ℕ, _*_, _≤_, _<_, min}
 use mathlib.Core.Path.{_≡_, refl, sym, ap, _∙_}
 use mathlib.Core.Logic.{_⊎_, inl, inr}
-use mathlib.Core.Bool.{Bool, true, false, cond, not, _&&_}
+use mathlib.Core.Bool.{Bool, true, false, cond, not}
 use mathlib.Core.List.{List, []}
 use native.Mathlib.Omega.{arith}
 use borrow.Author.Tests.{lt-ltb}
@@ -15,8 +15,8 @@ use Rattle.definitions.specs.Table.{accepted}
 use Rattle.definitions.specs.Values.{among, formOf, itemsOf, literalsOf, hear, held, lengthAfter, wordsFor, valuing, valued, marked}
 use Rattle.definitions.specs.declared.Form.{Form}
 use Rattle.definitions.specs.declared.Form.the-variants.{SignedNumbers, XTokens}
+use Rattle.definitions.proofs.Truths.{both}
 use Rattle.bits.proofs.Lists.{length-valued, length-marked}
-use Rattle.heard.proofs.Split.{never}
 use Rattle.values.proofs.Rows.{Within, Saying, valued-written, marked-written, stays, met, written-again, one-past, length-again}
 use Rattle.values.proofs.Agreeing.{Agree, all-agree, heard-again, Held, is-held, held-so}
 
@@ -38,10 +38,6 @@ where-true a c h = cases (negated c) (a (indexOf c)) h
     cases true true e = e
     cases true false e = refl
     cases false b e = sym e
-
-both : (a b : Bool) → a && b ≡ true → (a ≡ true) × (b ≡ true)
-both true b h = (refl, h)
-both false b h = never (sym h)
 
 -- tokens of signed numbers and `x` tokens say the same at any length
 pub same-said : (f : Form) → (f ≡ SignedNumbers) ⊎ (f ≡ XTokens) → (m n : ℕ) (t : List ℕ) → literalsOf f m t ≡ literalsOf f n t

@@ -16,7 +16,8 @@ use Rattle.definitions.specs.Meaning.{isTrue, assigned, isKnown}
 use Rattle.definitions.specs.Values.{zeroDigit, among, appended, conflicts, anyConflict, valued, marked}
 use Rattle.heard.proofs.Split.{opposite-index}
 use Rattle.bits.proofs.Lists.{valued-append, marked-append, length-valued, length-marked}
-use Rattle.values.proofs.Appended.{index-of-code, appended-next}
+use Rattle.laws.proofs.ReadRows.{index-of-code}
+use Rattle.values.proofs.Appended.{appended-next}
 
 -- ---- the room that is left
 pub leb-less : (most n m : ℕ) → n ≤ most → leb m (most - n) ≡ leb (n + m) most

@@ -1,5 +1,5 @@
 // A part of the program `vectors`: what is printed of a case's answer. Each number stands behind a space. No contract can
-// say which bytes are printed. Assumes nothing.
+// say which bytes are printed. Assumes nothing but what libc says of itself.
 use definitions::Counted;
 use libc::STDOUT_FILENO;
 

@@ -16,6 +16,7 @@ use Rattle.definitions.specs.declared.Entry.{Entry}
 use Rattle.definitions.specs.Write.{weighs, remarkText, rowText, printed, Item, say, line, itemText, oneLine}
 use Rattle.definitions.specs.Write.{rowAllowed, hasTerms, numbered, bounded, allowed, writtenIn}
 use Rattle.definitions.specs.declared.Mode.{Mode}
+use Rattle.definitions.proofs.Truths.{both}
 use Rattle.laws.proofs.Puts.{Puts, puts-as}
 use Rattle.puts.specs.Each.{LandsEach}
 use Rattle.puts.proofs.Each.{allOf, each-puts}
@@ -23,7 +24,6 @@ use Rattle.printed.specs.declared.kinds.Shape.{Shape}
 use Rattle.printed.specs.declared.kinds.Sort.the-variants.{Comment, Row}
 use Rattle.shown.specs.Terms.{ownTerms}
 use Rattle.printed.specs.Rows.{rowOn, entryOf, onColumns}
-use Rattle.printed.proofs.Tests.{and-right}
 use Rattle.printed.proofs.OneEntry.{part-is, own-is, itemFor}
 use Rattle.lines.specs.Pieces.{rowPieces}
 use Rattle.lines.proofs.Whole.{row-puts}
@@ -89,7 +89,7 @@ module _ (m : Mode) (ws : List ℤ) (cs : List ℕ) (text : List ℕ) (k f n : �
           → AcceptedRow s item
       by true true a b e =
           let w = allowed-row m (rowOf (s .kind) (s .bound) own) item e in
-          record { inside = a refl; weigh = and-right (indexed own) (weighs own) (b refl); numbers = w .0; bounds = w .1; is = w .2 }
+          record { inside = a refl; weigh = both (indexed own) (weighs own) (b refl) .1; numbers = w .0; bounds = w .1; is = w .2 }
       by true false a b e = never e
       by false q a b e = never e
 

@@ -1,7 +1,7 @@
 -- `head_length` meets its contract: a count has 20 digits at most.
 use native.Mathlib.Omega.{arith}
 use borrow.Author.Needs.{needs}
-use Rattle.laws.proofs.Puts.{count-length-most}
+use Rattle.laws.proofs.Digits.{count-length-most}
 use Rattle.opbwalk.proofs.head_length.Statement.{statement}
 use Rattle.opbwalk.proofs.head_length.Tie as tie
 

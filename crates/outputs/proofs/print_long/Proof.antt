@@ -10,7 +10,7 @@ use denote.Ref.{now}
 use lib.ListN.{length, length-set}
 use Rattle.definitions.proofs.Numbers.{decimal-some}
 use Rattle.outputs.specs.Print.{signedText}
-use Rattle.lengths.proofs.Counts.{decimal-short}
+use Rattle.laws.proofs.Digits.{count-length-most}
 use Rattle.outputs.proofs.Print.{refused, has-room, signed-counted, signed-done}
 use Rattle.outputs.proofs.print_long.Statement.{statement}
 use Rattle.outputs.proofs.print_long.Tie as tie
@@ -30,7 +30,7 @@ module _ (c : tie.Joined1) where
   few = ⊎-elim (λ w. omega (arith, w .1, most)) (λ w. omega (arith, w .1, most)) (c .if1 .came)
     where
       most : c .before .count-length .result ≤ 20
-      most = omega (arith, c .before .count-length .ensures, decimal-short (start .args .m) (omega arith))
+      most = omega (arith, c .before .count-length .ensures, count-length-most (start .args .m) (omega arith))
 
 -- what the test says where there is room
 room : (c : tie.Else2) → let j = c .before .before .before in let a = start j .args in

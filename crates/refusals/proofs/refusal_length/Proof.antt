@@ -4,7 +4,7 @@ use mathlib.Core.Path.{_≡_}
 use Prim.Native.Nat.{_≤_}
 use lib.ListN.{length}
 use Rattle.definitions.specs.Number.{decimal}
-use Rattle.laws.proofs.Puts.{count-length-most}
+use Rattle.laws.proofs.Digits.{count-length-most}
 use Rattle.refusals.proofs.Lines.{refused-length}
 use borrow.Author.Needs.{needs}
 use Rattle.refusals.proofs.refusal_length.Statement.{statement}

@@ -1,4 +1,4 @@
--- `survey` meets its contract: what is left of the walk gives the whole answer (proofs/Steps.antt). Assumes nothing.
+-- `survey` meets its contract: what is left of the walk gives the whole answer (proofs/Surveying.antt). Assumes nothing.
 use Prim.Native.Nat.{ℕ, _-_, _≤_}
 use mathlib.Core.Path.{_≡_, refl, sym, ap, subst, _∙_}
 use mathlib.Core.Bool.{Bool}

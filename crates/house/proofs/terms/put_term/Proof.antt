@@ -8,11 +8,12 @@ use denote.Ref.{now}
 use Rattle.definitions.specs.Literal.{indexOf, negated, fileNumber}
 use Rattle.definitions.specs.Row.{term}
 use Rattle.definitions.specs.House.{termFields}
+use Rattle.definitions.proofs.Truths.{one-truth}
 use Rattle.laws.proofs.Puts.{puts-as}
 use Rattle.literals.specs.Said.{saidFileNumber}
 use Rattle.house_lengths.specs.Words.{termWords}
 use Rattle.literals.proofs.Numbered.{number-is, no-number}
-use Rattle.house_lengths.proofs.Fields.{not-both, term-words}
+use Rattle.house_lengths.proofs.Fields.{term-words}
 use borrow.Author.Needs.{needs}
 use Rattle.house.proofs.terms.put_term.Statement.{statement}
 use Rattle.house.proofs.terms.put_term.Tie as tie
@@ -66,7 +67,7 @@ returns c =
 returns-2 : tie.Need-returns-2
 returns-2 c =
     let d = c .before .before in
-    not-both (start d .pre .number) (no-number _ _ _ (said d) (c .enum-told .given .1))
+    absurd (one-truth _ (start d .pre .number) (no-number _ _ _ (said d) (c .enum-told .given .1)))
 
 pub put-term-spec : {M : Type 1} → statement M
 put-term-spec =

@@ -1,7 +1,7 @@
 -- `comment_length` meets its contract: the digits of the count, `c`, a tab and an LF.
 use native.Mathlib.Omega.{arith}
 use Rattle.definitions.specs.Refusal.{needed}
-use Rattle.laws.proofs.Puts.{count-length-most}
+use Rattle.laws.proofs.Digits.{count-length-most}
 use Rattle.house_lengths.proofs.Words.{comment-length}
 use borrow.Author.Needs.{needs}
 use Rattle.house_lengths.proofs.lines.comment_length.Statement.{statement}

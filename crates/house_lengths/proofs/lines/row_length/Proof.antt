@@ -10,7 +10,7 @@ use Rattle.definitions.specs.Refusal.{needed}
 use Rattle.definitions.specs.Bytes.{tab}
 use Rattle.definitions.specs.Number.{integerText}
 use Rattle.definitions.specs.House.{kindWord}
-use Rattle.laws.proofs.Puts.{number-length-most}
+use Rattle.laws.proofs.Digits.{number-length-most}
 use Rattle.columns.specs.Kinds.{readKind}
 use Rattle.house_lengths.proofs.Words.{word-most}
 use borrow.Author.Needs.{needs}

@@ -5,7 +5,7 @@ use Prim.Native.Nat.{ℕ, _+_, _^_, _≤_, _<_}
 use lib.ListN.{length}
 use Rattle.definitions.specs.Refusal.{needed}
 use Rattle.definitions.specs.Number.{decimal}
-use Rattle.laws.proofs.Puts.{count-length-most}
+use Rattle.laws.proofs.Digits.{count-length-most}
 use Rattle.house_lengths.proofs.Words.{head-length}
 use borrow.Author.Needs.{needs}
 use Rattle.house_lengths.proofs.lines.text_length.Statement.{statement}

@@ -7,7 +7,7 @@ use lib.ListN.{length}
 use lib.IntN.{ℤ}
 use mir.Facts.{toZ-ofZ}
 use Rattle.definitions.specs.Number.{decimal, integerText}
-use Rattle.laws.proofs.Puts.{count-length-most, number-length-most}
+use Rattle.laws.proofs.Digits.{count-length-most, number-length-most}
 use Rattle.house_lengths.proofs.Fields.{tilde-words-length, plain-words-length}
 use borrow.Author.Needs.{needs}
 use Rattle.house_lengths.proofs.terms.fields_length.Statement.{statement}

@@ -6,7 +6,7 @@ use lib.IntN.{ℤ}
 use lib.ListN.{length}
 use mir.Facts.{toZ-ofZ}
 use Rattle.definitions.specs.Number.{integerText}
-use Rattle.shown.proofs.OneTerm.{weight-length-most}
+use Rattle.laws.proofs.Digits.{number-length-most}
 use Rattle.measures.proofs.Frames.{frame-at-least, frame-equal, frame-no-offset, frame-offset}
 use mir.Syntax.{w64}
 use mir.Val.{toZ, ofZ}
@@ -30,7 +30,7 @@ add-result : tie.Need-add-result
 add-result c = omega (
   arith,
   sized (c .before .before),
-  weight-length-most (start (c .before .before) .args .z)
+  number-length-most (start (c .before .before) .args .z)
       (start (c .before .before) .fits .z),
 )
 
@@ -41,7 +41,7 @@ add-result-2 : tie.Need-add-result-2
 add-result-2 c = omega (
   arith,
   sized (c .before .before),
-  weight-length-most (start (c .before .before) .args .z)
+  number-length-most (start (c .before .before) .args .z)
       (start (c .before .before) .fits .z),
 )
 
@@ -52,7 +52,7 @@ add-result-3 : tie.Need-add-result-3
 add-result-3 c = omega (
   arith,
   sized (c .before .before),
-  weight-length-most (start (c .before .before) .args .z)
+  number-length-most (start (c .before .before) .args .z)
       (start (c .before .before) .fits .z),
 )
 
@@ -60,7 +60,7 @@ enum-told-4 : tie.Need-enum-told-4
 enum-told-4 c = search needs
 
 add-result-4 : tie.Need-add-result-4
-add-result-4 c = let d = c .before .before .before in omega (arith, sized d, weight-length-most (start d .args .z) (start d .fits .z))
+add-result-4 c = let d = c .before .before .before in omega (arith, sized d, number-length-most (start d .args .z) (start d .fits .z))
 
 returns : tie.Need-returns
 returns c =

@@ -12,7 +12,8 @@ use mir.Facts.{toZ-ofZ}
 use Rattle.definitions.specs.Number.{decimal, integerText}
 use Rattle.definitions.proofs.Numbers.{decimal-length-most}
 use Rattle.shown.specs.declared.terms.Shown.{Shown}
-use Rattle.shown.proofs.OneTerm.{weight-length-most, term-words-tilde, term-words-plain}
+use Rattle.laws.proofs.Digits.{number-length-most}
+use Rattle.shown.proofs.OneTerm.{term-words-tilde, term-words-plain}
 use Rattle.measures.proofs.terms.term_length.Statement.{statement}
 use Rattle.measures.proofs.terms.term_length.Tie as tie
 
@@ -50,13 +51,13 @@ count-length-requires : tie.Need-count-length-requires
 count-length-requires c κs = search needs
 
 add-digits : tie.Need-add-digits
-add-digits c = omega (arith, sized c, numbered c, short c, weight-length-most (shown c .weight) (weight-fits c))
+add-digits c = omega (arith, sized c, numbered c, short c, number-length-most (shown c .weight) (weight-fits c))
 
 add-result : tie.Need-add-result
-add-result c = let d = c .before in omega (arith, sized d, numbered d, short d, weight-length-most (shown d .weight) (weight-fits d))
+add-result c = let d = c .before in omega (arith, sized d, numbered d, short d, number-length-most (shown d .weight) (weight-fits d))
 
 add-result-2 : tie.Need-add-result-2
-add-result-2 c = let d = c .before in omega (arith, sized d, numbered d, short d, weight-length-most (shown d .weight) (weight-fits d))
+add-result-2 c = let d = c .before in omega (arith, sized d, numbered d, short d, number-length-most (shown d .weight) (weight-fits d))
 
 returns : tie.Need-returns
 returns c = let d = c .before in omega (

@@ -1,4 +1,4 @@
--- `walk_plain` meets its contract: the loop stands behind a run of plain terms (`Ran`, proofs/Runs.antt), with the rest
+-- `walk_plain` meets its contract: the loop stands behind a run of plain terms (`Ran`, specs/Run.antt), with the rest
 -- of the text from there on. The measure is what is left of the text.
 use Prim.Native.Nat.{ℕ, _+_, _-_, _≤_}
 use mathlib.Core.Path.{_≡_, refl}
