@@ -48,7 +48,8 @@ module _ (most : ℕ) where
   plain-up-to : (ts : List Term) → AllOf (NumberUpTo most) ts → AllOf (Plain most) (map plainTerm ts)
   unfolding plainTerm
   plain-up-to [] g = tt
-  plain-up-to (t ∷ ts) g = (record { plain = plain-not-negated (t .code); within = rw (plain-half (t .code)) (g .0) }, plain-up-to ts (g .1))
+  plain-up-to (t ∷ ts) g =
+      (record { plain = plain-not-negated (t .code); within = rw (plain-half (t .code)) (g .0) }, plain-up-to ts (g .1))
 
   pub printed-plain : (r : Row) → UpTo most r → AllOf (Plain most) (printed true r .terms)
   unfolding printed unnegated flipped
