@@ -10,10 +10,10 @@ use lib.Count.{ones, ones-le}
 use lib.Dec.{eqb}
 use lib.ListN.{length, get_or, take, length-take}
 use lib.Seq.{get_or-take}
-use Rattle.definitions.specs.Meaning.{assigned, trueBelow, onesOf}
-use Rattle.definitions.specs.Evaluate.{knownOnes}
-use Rattle.definitions.proofs.Ones.{true-split, true-alike, onesSummed, ones-counted}
-use Rattle.assigned.specs.WordsSay.{knownWord, hasBy, onesBy}
+use Rattle.definitions.specs.Meaning.{assigned, true_below, ones_of}
+use Rattle.definitions.specs.Evaluate.{known_ones}
+use Rattle.definitions.proofs.Ones.{true-split, true-alike, ones_summed, ones-counted}
+use Rattle.assigned.specs.WordsSay.{known_word, has_by, ones_by}
 use Rattle.assigned.proofs.Known.{bit_of, has_there}
 
 -- ---- one word
@@ -44,65 +44,65 @@ only-word x k h =
     let r : k % 64 ≡ k = omega arith in
     rw (q, r)
 
-whole_word : (x : ℕ) → x < 2 ^ 64 → trueBelow (assigned (x ∷ [])) 64 ≡ ones x
-unfolding onesOf onesSummed
+whole_word : (x : ℕ) → x < 2 ^ 64 → true_below (assigned (x ∷ [])) 64 ≡ ones x
+unfolding ones_of ones_summed
 whole_word x h = ones-counted (x ∷ []) (h, tt) ∙ omega arith
 
 -- the ones of a word are its bits
-word-bits : (p : ℕ → Bool) (x : ℕ) → x < 2 ^ 64 → ((k : ℕ) → k < 64 → p k ≡ bit_of x k) → trueBelow p 64 ≡ ones x
+word-bits : (p : ℕ → Bool) (x : ℕ) → x < 2 ^ 64 → ((k : ℕ) → k < 64 → p k ≡ bit_of x k) → true_below p 64 ≡ ones x
 word-bits p x h e = true-alike p (assigned (x ∷ [])) 64 (λ k g. e k g ∙ sym (only-word x k g)) ∙ whole_word x h
 
 -- ---- word by word
 
 -- the variables that are known and true
-abbrev knownTrue : Bool → List ℕ → List ℕ → ℕ → Bool
-knownTrue all ws ks v = hasBy all ws ks v && assigned ws v
+abbrev known_true : Bool → List ℕ → List ℕ → ℕ → Bool
+known_true all ws ks v = has_by all ws ks v && assigned ws v
 
 -- after i words, n ones
 pub record Counted (all : Bool) (ws ks : List ℕ) (i n : ℕ) : Type 0 where
   pub few : n ≤ 64 * i
-  pub ones : n ≡ trueBelow (knownTrue all ws ks) (64 * i)
+  pub ones : n ≡ true_below (known_true all ws ks) (64 * i)
 
 module _ (all : Bool) (ws ks : List ℕ) where
   pub counted_none : Counted all ws ks 0 0
-  unfolding trueBelow
+  unfolding true_below
   counted_none = record { few = omega arith; ones = refl }
 
   -- the bits of word i
   bit_at : (i : ℕ) → i < length ws → (k : ℕ) → k < 64
-      → knownTrue all ws ks (64 * i + k) ≡ bit_of (bit_and (get_or ws i 0) (knownWord all ks i)) k
+      → known_true all ws ks (64 * i + k) ≡ bit_of (bit_and (get_or ws i 0) (known_word all ks i)) k
   unfolding assigned
   bit_at i h k g =
       let q : (64 * i + k) / 64 ≡ i = omega arith in
       let r : (64 * i + k) % 64 ≡ k = omega arith in
-      rw (has_there ws ks (64 * i + k) all (omega arith), q, r) (sym (and-bit (get_or ws i 0) (knownWord all ks i) k))
+      rw (has_there ws ks (64 * i + k) all (omega arith), q, r) (sym (and-bit (get_or ws i 0) (known_word all ks i) k))
 
   pub counted-more : (i n : ℕ) → Counted all ws ks i n → i < length ws → get_or ws i 0 < 2 ^ 64
-      → Counted all ws ks (i + 1) (n + ones (bit_and (get_or ws i 0) (knownWord all ks i)))
+      → Counted all ws ks (i + 1) (n + ones (bit_and (get_or ws i 0) (known_word all ks i)))
   counted-more i n c h g =
-      let x = bit_and (get_or ws i 0) (knownWord all ks i) in
-      let f : x < 2 ^ 64 = omega (arith, and_le_l (get_or ws i 0) (knownWord all ks i)) in
+      let x = bit_and (get_or ws i 0) (known_word all ks i) in
+      let f : x < 2 ^ 64 = omega (arith, and_le_l (get_or ws i 0) (known_word all ks i)) in
       let e : 64 * (i + 1) ≡ 64 * i + 64 = omega arith in
       record {
         few = omega (arith, c.few, ones-le 64 x f);
         ones =
-            rw e (ap₂ (λ (a b : ℕ). a + b) c.ones (sym (word-bits (λ k. knownTrue all ws ks (64 * i + k)) x f (bit_at i h)))
-            ∙ sym (true-split (knownTrue all ws ks) (64 * i) 64));
+            rw e (ap₂ (λ (a b : ℕ). a + b) c.ones (sym (word-bits (λ k. known_true all ws ks (64 * i + k)) x f (bit_at i h)))
+            ∙ sym (true-split (known_true all ws ks) (64 * i) 64));
       }
 
   -- where all are known they are the words' ones
-  ones_is : (all : Bool) → trueBelow (knownTrue all ws ks) (64 * length ws) ≡ onesBy all ws ks
-  unfolding onesOf knownOnes
-  ones_is true = true-alike (knownTrue true ws ks) (assigned ws) (64 * length ws) (λ v h. rw (lt-ltb v (64 * length ws) h))
+  ones_is : (all : Bool) → true_below (known_true all ws ks) (64 * length ws) ≡ ones_by all ws ks
+  unfolding ones_of known_ones
+  ones_is true = true-alike (known_true true ws ks) (assigned ws) (64 * length ws) (λ v h. rw (lt-ltb v (64 * length ws) h))
   ones_is false = refl
 
-  pub counted-all : (i n : ℕ) → Counted all ws ks i n → i ≡ length ws → n ≡ onesBy all ws ks
-  counted-all i n c e = c.ones ∙ ap (λ (m : ℕ). trueBelow (knownTrue all ws ks) (64 * m)) e ∙ ones_is all
+  pub counted-all : (i n : ℕ) → Counted all ws ks i n → i ≡ length ws → n ≡ ones_by all ws ks
+  counted-all i n c e = c.ones ∙ ap (λ (m : ℕ). true_below (known_true all ws ks) (64 * m)) e ∙ ones_is all
 
 -- of the first m words of both rows
 pub counted-first : (all : Bool) (m : ℕ) (ws ks : List ℕ) (i n : ℕ) → Counted all (take m ws) (take m ks) i n → i < length ws → i < m
     → get_or ws i 0 < 2 ^ 64
-    → Counted all (take m ws) (take m ks) (i + 1) (n + ones (bit_and (get_or ws i 0) (knownWord all ks i)))
+    → Counted all (take m ws) (take m ks) (i + 1) (n + ones (bit_and (get_or ws i 0) (known_word all ks i)))
 counted-first all m ws ks i n c h g f =
     let e = get_or-take m ws i 0 g in
     rw (e, get_or-take m ks i 0 g)

@@ -3,7 +3,7 @@
 // many are known and true. With `all` everything that the words hold is known, and the known words are not looked at.
 // Assumes nothing.
 ghost use Rattle.std.specs.Prelude.{◌≡◌};
-ghost use Rattle.assigned.specs.WordsSay.{looked, knownWord, hasBy, onesBy, codesCovered};
+ghost use Rattle.assigned.specs.WordsSay.{looked, known_word, has_by, ones_by, codes_covered};
 
 use definitions::WORD_LIMIT;
 use literals::Lit;
@@ -13,7 +13,7 @@ const ALL: u64 = 18_446_744_073_709_551_615;
 
 // The bits of word i that are known: beyond the known words none.
 fn known_word(known: &[u64], all: bool, i: usize) -> u64
-    ensures { result ≡ knownWord all known.now i }
+    ensures { result ≡ known_word all known.now i }
 {
     if all {
         return ALL;
@@ -23,7 +23,7 @@ fn known_word(known: &[u64], all: bool, i: usize) -> u64
 
 // Whether a variable has a bit that is known.
 fn has_value(v: usize, words: &[u64], known: &[u64], all: bool) -> bool
-    ensures { result ≡ hasBy all words.now known.now v }
+    ensures { result ≡ has_by all words.now known.now v }
 {
     if v / 64 >= words.len() {
         return false;
@@ -34,7 +34,7 @@ fn has_value(v: usize, words: &[u64], known: &[u64], all: bool) -> bool
 
 // Whether every variable has a value; if not, "variable beyond the assignment" or unknown.
 pub fn covered(literals: &[u32], words: &[u64], known: &[u64], all: bool) -> bool
-    ensures { result ≡ codesCovered (hasBy all words.now known.now) literals.now }
+    ensures { result ≡ codes_covered (has_by all words.now known.now) literals.now }
 {
     let mut i: usize = 0;
     while i < literals.len() {
@@ -49,7 +49,7 @@ pub fn covered(literals: &[u32], words: &[u64], known: &[u64], all: bool) -> boo
 
 // "The number of ones in the assignment's words", of those that are looked at and known.
 pub fn ones_of(words: &[u64], known: &[u64], all: bool) -> u64
-    ensures { result ≡ onesBy all (looked words.now) (looked known.now) }
+    ensures { result ≡ ones_by all (looked words.now) (looked known.now) }
 {
     let held = columns::lesser(words.len(), WORD_LIMIT);
     let mut ones: u64 = 0;

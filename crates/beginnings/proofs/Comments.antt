@@ -12,10 +12,10 @@ use lib.ListN.{length, get_or, drop, length-drop}
 use lib.IntN.{pos}
 use Rattle.definitions.specs.Refusal.{fault}
 use Rattle.definitions.specs.Lists.{starts_with}
-use Rattle.definitions.specs.Bytes.{is_at, blanks, lineEnding, untilEnding, space, minText, letterM, colon}
+use Rattle.definitions.specs.Bytes.{is_at, blanks, line_ending, until_ending, space, min_text, letter_m, colon}
 use Rattle.definitions.specs.Reader.{none, got}
 use Rattle.definitions.specs.Row.{comment}
-use Rattle.definitions.specs.Text.{gap, minWord, minBlanks, remark}
+use Rattle.definitions.specs.Text.{gap, min_word, min_blanks, remark}
 use Rattle.definitions.proofs.Chains.{chain-none, chain-got}
 use Rattle.definitions.proofs.Texts.{until-within, ending-within}
 use Rattle.blanks.proofs.At.{at-is}
@@ -43,22 +43,22 @@ starts-same (p ∷ w) (b ∷ s) h e = rw (eq-eqb b p (e 0 (omega arith))) (start
 
 -- ---- `min:`, blanks
 
-min-none : (s : List ℕ) → starts_with minText s ≡ false → minBlanks s ≡ none (fault 2)
-unfolding minBlanks minWord
-min-none s e = chain-none minWord (λ _. gap) s (fault 2) (rw e)
+min-none : (s : List ℕ) → starts_with min_text s ≡ false → min_blanks s ≡ none (fault 2)
+unfolding min_blanks min_word
+min-none s e = chain-none min_word (λ _. gap) s (fault 2) (rw e)
 
-pub min-short : (s : List ℕ) → length s < 4 → minBlanks s ≡ none (fault 2)
-min-short s h = min-none s (starts-short minText s h)
+pub min-short : (s : List ℕ) → length s < 4 → min_blanks s ≡ none (fault 2)
+min-short s h = min-none s (starts-short min_text s h)
 
-pub min-other : (s : List ℕ) (i : ℕ) → i < 4 → (get_or s i 0 ≡ get_or minText i 0 → ⊥) → minBlanks s ≡ none (fault 2)
-min-other s i h n = min-none s (starts_other minText s i h n)
+pub min-other : (s : List ℕ) (i : ℕ) → i < 4 → (get_or s i 0 ≡ get_or min_text i 0 → ⊥) → min_blanks s ≡ none (fault 2)
+min-other s i h n = min-none s (starts_other min_text s i h n)
 
-pub min-got : (s : List ℕ) (k : ℕ) → 4 ≤ length s → get_or s 0 0 ≡ letterM → get_or s 1 0 ≡ 105 → get_or s 2 0 ≡ 110 → get_or s 3 0 ≡ colon
-    → k ≡ blanks (drop 4 s) → minBlanks s ≡ got k (4 + k)
-unfolding minBlanks minWord gap
-min-got s k h m i n c e = chain-got minWord (λ _. gap) s 0 4 (rw (starts-same minText s h at)) ∙ rw (← e)
+pub min-got : (s : List ℕ) (k : ℕ) → 4 ≤ length s → get_or s 0 0 ≡ letter_m → get_or s 1 0 ≡ 105 → get_or s 2 0 ≡ 110 → get_or s 3 0 ≡ colon
+    → k ≡ blanks (drop 4 s) → min_blanks s ≡ got k (4 + k)
+unfolding min_blanks min_word gap
+min-got s k h m i n c e = chain-got min_word (λ _. gap) s 0 4 (rw (starts-same min_text s h at)) ∙ rw (← e)
   where
-    at : (j : ℕ) → j < 4 → get_or s j 0 ≡ get_or minText j 0
+    at : (j : ℕ) → j < 4 → get_or s j 0 ≡ get_or min_text j 0
     at zero l = m
     at (suc zero) l = i
     at (suc (suc zero)) l = n
@@ -73,30 +73,30 @@ remark-empty [] e = refl
 remark-empty (b ∷ s) e = absurd (omega arith)
 
 -- n bytes up to the line ending, and m of that; t says whether a space stands behind the `*`
-remark-by : (s : List ℕ) (n m : ℕ) (t : Bool) → 0 < length s → n ≡ untilEnding (drop 1 s)
-    → m ≡ lineEnding (drop (n + 1) s) → is_at space (drop 1 s) ≡ t
+remark-by : (s : List ℕ) (n m : ℕ) (t : Bool) → 0 < length s → n ≡ until_ending (drop 1 s)
+    → m ≡ line_ending (drop (n + 1) s) → is_at space (drop 1 s) ≡ t
     → remark s ≡ got (comment (1 + cond t 1 0) (n - cond t 1 0) (pos 0)) (n + 1 + m)
 unfolding remark
 remark-by [] n m t h e f g = absurd (omega arith)
 remark-by (b ∷ s) n m t h e f g =
-    let l : m ≡ lineEnding (drop n s) = rw add-one at f in
+    let l : m ≡ line_ending (drop n s) = rw add-one at f in
     rw (← e, ← l, g) (ap (got (comment (1 + cond t 1 0) (n - cond t 1 0) (pos 0))) (omega arith))
 
 -- where a line ending or the end stands at the front, no space does
-no-space : (s : List ℕ) → untilEnding s ≡ 0 → is_at space s ≡ false
-unfolding untilEnding lineEnding is_at
+no-space : (s : List ℕ) → until_ending s ≡ 0 → is_at space s ≡ false
+unfolding until_ending line_ending is_at
 no-space [] e = refl
 no-space (b ∷ s) e = by (eqb b space) refl
   where
     by : (t : Bool) → eqb b space ≡ t → eqb b space ≡ false
-    by true q = let z : suc (untilEnding s) ≡ 0 = rw (eqb-true b space q) at e in absurd (omega arith)
+    by true q = let z : suc (until_ending s) ≡ 0 = rw (eqb-true b space q) at e in absurd (omega arith)
     by false q = q
 
-module _ (s : List ℕ) (n : ℕ) (h : 0 < length s) (e : n ≡ untilEnding (drop 1 s)) where
+module _ (s : List ℕ) (n : ℕ) (h : 0 < length s) (e : n ≡ until_ending (drop 1 s)) where
   pub comment-text-within : n + 1 ≤ length s
   comment-text-within = omega (arith, until-within (drop 1 s), length-drop 1 s)
 
-  module _ (m : ℕ) (f : m ≡ lineEnding (drop (n + 1) s)) where
+  module _ (m : ℕ) (f : m ≡ line_ending (drop (n + 1) s)) where
     pub comment-within : n + 1 + m ≤ length s
     comment-within = omega (arith, comment-text-within, ending-within (drop (n + 1) s), length-drop (n + 1) s)
 

@@ -2,7 +2,7 @@
 -- what it is lent.
 use mathlib.Core.Path.{◌≡◌, refl, sym, ◌∙◌}
 use Rattle.definitions.proofs.Truths.{never}
-use Rattle.beginnings.specs.Said.{saidMin, saidComment}
+use Rattle.beginnings.specs.Said.{said_min, said_comment}
 use Rattle.beginnings.specs.declared.MinRead.{MinRead}
 use Rattle.beginnings.specs.declared.CommentRead.{CommentRead}
 use Rattle.beginnings.specs.declared.MinRead.TheVariants as min
@@ -12,13 +12,13 @@ use Rattle.beginnings.proofs.read_comment.Reads as read-comment
 
 -- ---- an answer is known by what it says
 
-pub said-min : (r r' : MinRead) → saidMin r ≡ saidMin r' → r ≡ r'
+pub said-min : (r r' : MinRead) → said_min r ≡ said_min r' → r ≡ r'
 said-min (min.Min k) (min.Min l) e = cc
 said-min (min.Min k) min.Missing e = never (cc)
 said-min min.Missing (min.Min l) e = never (cc)
 said-min min.Missing min.Missing e = refl
 
-pub said-comment : (r r' : CommentRead) → saidComment r ≡ saidComment r' → r ≡ r'
+pub said-comment : (r r' : CommentRead) → said_comment r ≡ said_comment r' → r ≡ r'
 said-comment (comment.Comment f n m) (comment.Comment g l k) e = cc
 said-comment (comment.Comment f n m) comment.Missing e = never (cc)
 said-comment comment.Missing (comment.Comment g l k) e = never (cc)

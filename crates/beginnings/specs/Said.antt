@@ -9,10 +9,10 @@ use Rattle.beginnings.specs.declared.CommentRead.{CommentRead}
 use Rattle.beginnings.specs.declared.CommentRead.TheVariants as comment'
 
 -- 2: "a statement starts with none of its beginnings"
-abbrev pub saidMin : MinRead → Got ℕ
-saidMin (min.Min k) = got k (4 + k)
-saidMin min.Missing = none (fault 2)
+abbrev pub said_min : MinRead → Got ℕ
+said_min (min.Min k) = got k (4 + k)
+said_min min.Missing = none (fault 2)
 
-abbrev pub saidComment : CommentRead → Got Line
-saidComment (comment'.Comment f n m) = got (comment f n (pos 0)) m
-saidComment comment'.Missing = none (fault 2)
+abbrev pub said_comment : CommentRead → Got Line
+said_comment (comment'.Comment f n m) = got (comment f n (pos 0)) m
+said_comment comment'.Missing = none (fault 2)

@@ -1,8 +1,8 @@
 // The beginnings of a statement that are a word: `min:` of an objective, and the whole of a comment (01, "The text").
 // specs/Said.antt says what each answer is in 01's numbers and values. Assumes nothing.
 ghost use Rattle.std.specs.Prelude.{◌≡◌};
-ghost use Rattle.definitions.specs.Text.{minBlanks, remark};
-ghost use Rattle.beginnings.specs.Said.{saidMin, saidComment};
+ghost use Rattle.definitions.specs.Text.{min_blanks, remark};
+ghost use Rattle.beginnings.specs.Said.{said_min, said_comment};
 
 // `min:` and the blanks behind it, with how many these are, or another word (2).
 #[derive(Drop)]
@@ -24,7 +24,7 @@ pub enum CommentRead {
 }
 
 pub fn read_min(s: &[u8]) -> MinRead
-    ensures { saidMin result ≡ minBlanks s.now }
+    ensures { said_min result ≡ min_blanks s.now }
 {
     if s.len() < 4 {
         return MinRead::Missing;
@@ -47,7 +47,7 @@ pub fn read_min(s: &[u8]) -> MinRead
 // "`*`: comment to the line ending or file end, any bytes"; the text begins "after `*` and after one space directly
 // behind it, if there"
 pub fn read_comment(s: &[u8]) -> CommentRead
-    ensures { saidComment result ≡ remark s.now }
+    ensures { said_comment result ≡ remark s.now }
 {
     if s.len() == 0 {
         return CommentRead::Missing;

@@ -14,7 +14,7 @@ use lib.ListN.{length, get_or, set, length-set, get_or-eq_default}
 use lib.Pow.{pow_pos, pow-add, split, high, shr_lt, shr-shr, shl_exact}
 use lib.Seq.{get_or-set_same, get_or-set_other, set-get_or, set_out}
 use Rattle.definitions.specs.Meaning.{assigned}
-use Rattle.definitions.specs.Values.{wordWith, bitMade}
+use Rattle.definitions.specs.Values.{word_with, bit_made}
 
 -- bit k of w, as a test
 abbrev pub bit_of : ℕ → ℕ → Bool
@@ -39,12 +39,12 @@ parts-of b q p r = cases b
     cases true = omega (arith, q-parts, add-mul (q - q % 2) 1 p)
     cases false = omega (arith, q-parts, add-mul (q - q % 2) 0 p)
 
-with-parts : (b : Bool) (k w : ℕ) → wordWith b k w ≡ upper b (w / 2 ^ k) * 2 ^ k + w % 2 ^ k
+with-parts : (b : Bool) (k w : ℕ) → word_with b k w ≡ upper b (w / 2 ^ k) * 2 ^ k + w % 2 ^ k
 with-parts b k w =
     ap (λ (x : ℕ). x - w / 2 ^ k % 2 * 2 ^ k + cond b (2 ^ k) 0) (sym (split w k)) ∙ parts-of b (w / 2 ^ k) (2 ^ k) (w % 2 ^ k)
 
 -- what stands from bit k on
-with-upper : (b : Bool) (k w : ℕ) → wordWith b k w / 2 ^ k ≡ upper b (w / 2 ^ k)
+with-upper : (b : Bool) (k w : ℕ) → word_with b k w / 2 ^ k ≡ upper b (w / 2 ^ k)
 with-upper b k w = ap (λ (x : ℕ). x / 2 ^ k) (with-parts b k w) ∙ high (upper b (w / 2 ^ k)) k (mod-lt w (pow_pos k))
 
 upper-bit : (b : Bool) (q : ℕ) → eqb (upper b q % 2) 1 ≡ b
@@ -56,16 +56,16 @@ upper-half true q = omega arith
 upper-half false q = omega arith
 
 -- bit k itself
-pub with-same : (b : Bool) (k w : ℕ) → bit_of k (wordWith b k w) ≡ b
+pub with-same : (b : Bool) (k w : ℕ) → bit_of k (word_with b k w) ≡ b
 with-same b k w = ap (λ (x : ℕ). eqb (x % 2) 1) (with-upper b k w) ∙ upper-bit b (w / 2 ^ k)
 
 -- a bit above
 above : (w k d : ℕ) → w / 2 ^ (k + (1 + d)) ≡ w / 2 ^ k / 2 / 2 ^ d
 above w k d = sym (shr-shr w k (1 + d)) ∙ sym (shr-shr (w / 2 ^ k) 1 d)
 
-with-above : (b : Bool) (k d w : ℕ) → wordWith b k w / 2 ^ (k + (1 + d)) % 2 ≡ w / 2 ^ (k + (1 + d)) % 2
+with-above : (b : Bool) (k d w : ℕ) → word_with b k w / 2 ^ (k + (1 + d)) % 2 ≡ w / 2 ^ (k + (1 + d)) % 2
 with-above b k d w =
-    ap (λ (x : ℕ). x % 2) (above (wordWith b k w) k d)
+    ap (λ (x : ℕ). x % 2) (above (word_with b k w) k d)
     ∙ ap (λ (x : ℕ). x / 2 / 2 ^ d % 2) (with-upper b k w)
     ∙ ap (λ (x : ℕ). x / 2 ^ d % 2) (upper-half b (w / 2 ^ k))
     ∙ ap (λ (x : ℕ). x % 2) (sym (above w k d))
@@ -78,16 +78,16 @@ low_bit a r d j =
     ∙ ap (λ (x : ℕ). (x + r / 2 ^ j) % 2) (ap (λ (x : ℕ). a * x) (pow-suc 2 d) ∙ sym (mul_assoc a (2 ^ d) 2))
     ∙ mul-add-mod_self_right (a * 2 ^ d) 2 (r / 2 ^ j)
 
-with-below : (b : Bool) (d j w : ℕ) → wordWith b (suc d + j) w / 2 ^ j % 2 ≡ w / 2 ^ j % 2
+with-below : (b : Bool) (d j w : ℕ) → word_with b (suc d + j) w / 2 ^ j % 2 ≡ w / 2 ^ j % 2
 with-below b d j w =
     let k = suc d + j in
     ap (λ (x : ℕ). x / 2 ^ j % 2) (with-parts b k w) ∙ low_bit (upper b (w / 2 ^ k)) (w % 2 ^ k) d j
     ∙ sym (ap (λ (x : ℕ). x / 2 ^ j % 2) (sym (split w k)) ∙ low_bit (w / 2 ^ k) (w % 2 ^ k) d j)
 
-pub with-other : (b : Bool) (j k w : ℕ) → (j ≡ k → ⊥) → wordWith b k w / 2 ^ j % 2 ≡ w / 2 ^ j % 2
+pub with-other : (b : Bool) (j k w : ℕ) → (j ≡ k → ⊥) → word_with b k w / 2 ^ j % 2 ≡ w / 2 ^ j % 2
 with-other b j k w h = cases (dec_lt j k)
   where
-    cases : Dec (j < k) → wordWith b k w / 2 ^ j % 2 ≡ w / 2 ^ j % 2
+    cases : Dec (j < k) → word_with b k w / 2 ^ j % 2 ≡ w / 2 ^ j % 2
     cases (yes l) =
         let e : suc (k - suc j) + j ≡ k = omega arith in
         rw e at (with-below b (k - suc j) j w)
@@ -100,7 +100,7 @@ upper-again : (b : Bool) (q : ℕ) → eqb (q % 2) 1 ≡ b → upper b q ≡ q
 upper-again true q h = omega (arith, eqb-true (q % 2) 1 h)
 upper-again false q h = let n : q % 2 ≡ 1 → ⊥ = eqb-false (q % 2) 1 h in omega (arith, n)
 
-pub with-again : (b : Bool) (k w : ℕ) → bit_of k w ≡ b → wordWith b k w ≡ w
+pub with-again : (b : Bool) (k w : ℕ) → bit_of k w ≡ b → word_with b k w ≡ w
 with-again b k w h = with-parts b k w ∙ ap (λ (x : ℕ). x * 2 ^ k + w % 2 ^ k) (upper-again b (w / 2 ^ k) h) ∙ split w k
 
 -- a word of n bits stays one
@@ -108,13 +108,13 @@ upper_fits : (b : Bool) (q d : ℕ) → q < 2 ^ suc d → upper b q < 2 ^ suc d
 upper_fits true q d h = omega (arith, pow-suc 2 d)
 upper_fits false q d h = omega arith
 
-fits_on : (b : Bool) (d k w : ℕ) → w < 2 ^ (suc d + k) → wordWith b k w < 2 ^ (suc d + k)
+fits_on : (b : Bool) (d k w : ℕ) → w < 2 ^ (suc d + k) → word_with b k w < 2 ^ (suc d + k)
 fits_on b d k w h =
     let l : upper b (w / 2 ^ k) * 2 ^ k + w % 2 ^ k < 2 ^ suc d * 2 ^ k
     = digits_lt (upper_fits b (w / 2 ^ k) d (shr_lt (suc d) k h)) (mod-lt w (pow_pos k)) in
     rw (with-parts b k w, pow-add 2 (suc d) k) l
 
-pub with-fits : (b : Bool) (n k w : ℕ) → k < n → w < 2 ^ n → wordWith b k w < 2 ^ n
+pub with-fits : (b : Bool) (n k w : ℕ) → k < n → w < 2 ^ n → word_with b k w < 2 ^ n
 with-fits b n k w h l =
     let e : suc (n - suc k) + k ≡ n = omega arith in
     rw e at (fits_on b (n - suc k) k w (rw e l))
@@ -134,14 +134,14 @@ module _ (k w : ℕ) where
         q-within : 1 * 2 ^ k ≤ w / 2 ^ k * 2 ^ k
         q-within = mul-le-mul_right (2 ^ k) (omega arith)
 
-    pub power-taken : w - 2 ^ k ≡ wordWith false k w
+    pub power-taken : w - 2 ^ k ≡ word_with false k w
     power-taken = rw h (omega arith)
 
   module _ (h : w / 2 ^ k % 2 ≡ 1 → ⊥) where
     pub one-is-not : bit_of k w ≡ false
     one-is-not = ne_eqb (w / 2 ^ k % 2) 1 h
 
-    pub power-added : w + 2 ^ k ≡ wordWith true k w
+    pub power-added : w + 2 ^ k ≡ word_with true k w
     power-added = let z : w / 2 ^ k % 2 ≡ 0 = omega (arith, h) in rw z (omega arith)
 
     pub added-fits : k < 64 → w < 2 ^ 64 → w + 2 ^ k < 2 ^ 64
@@ -157,38 +157,38 @@ pub bit-beyond : (v : ℕ) (ws : List ℕ) → length ws ≤ v / 64 → false �
 unfolding assigned
 bit-beyond v ws h = rw (get_or-eq_default ws 0 h, zero-div (2 ^ (v % 64)))
 
-pub made-beyond : (b : Bool) (v : ℕ) (ws : List ℕ) → length ws ≤ v / 64 → ws ≡ bitMade b v ws
-unfolding bitMade
+pub made-beyond : (b : Bool) (v : ℕ) (ws : List ℕ) → length ws ≤ v / 64 → ws ≡ bit_made b v ws
+unfolding bit_made
 made-beyond b v ws h = sym (set_out ws (v / 64) _ h)
 
-pub made_in : (b : Bool) (v w : ℕ) (ws : List ℕ) → w ≡ wordWith b (v % 64) (get_or ws (v / 64) 0) → set ws (v / 64) w ≡ bitMade b v ws
-unfolding bitMade
+pub made_in : (b : Bool) (v w : ℕ) (ws : List ℕ) → w ≡ word_with b (v % 64) (get_or ws (v / 64) 0) → set ws (v / 64) w ≡ bit_made b v ws
+unfolding bit_made
 made_in b v w ws e = ap (set ws (v / 64)) e
 
-pub length-made : (b : Bool) (v : ℕ) (ws : List ℕ) → length (bitMade b v ws) ≡ length ws
-unfolding bitMade
+pub length-made : (b : Bool) (v : ℕ) (ws : List ℕ) → length (bit_made b v ws) ≡ length ws
+unfolding bit_made
 length-made b v ws = length-set ws (v / 64) _
 
-pub made_again : (b : Bool) (v : ℕ) (ws : List ℕ) → assigned ws v ≡ b → bitMade b v ws ≡ ws
-unfolding bitMade assigned
+pub made_again : (b : Bool) (v : ℕ) (ws : List ℕ) → assigned ws v ≡ b → bit_made b v ws ≡ ws
+unfolding bit_made assigned
 made_again b v ws h = ap (set ws (v / 64)) (with-again b (v % 64) (get_or ws (v / 64) 0) h) ∙ set-get_or ws (v / 64) 0
 
 -- in its word it is the bit made, or another one
-in-word : (b : Bool) (v u : ℕ) (w : ℕ) → u / 64 ≡ v / 64 → bit_of (u % 64) (wordWith b (v % 64) w) ≡ cond (eqb u v) b (bit_of (u % 64) w)
+in-word : (b : Bool) (v u : ℕ) (w : ℕ) → u / 64 ≡ v / 64 → bit_of (u % 64) (word_with b (v % 64) w) ≡ cond (eqb u v) b (bit_of (u % 64) w)
 in-word b v u w e = cases (eqb u v) refl
   where
-    cases : (t : Bool) → eqb u v ≡ t → bit_of (u % 64) (wordWith b (v % 64) w) ≡ cond t b (bit_of (u % 64) w)
+    cases : (t : Bool) → eqb u v ≡ t → bit_of (u % 64) (word_with b (v % 64) w) ≡ cond t b (bit_of (u % 64) w)
     cases true h = rw (eqb-true u v h) (with-same b (v % 64) w)
     cases false h =
         let n : u ≡ v → ⊥ = eqb-false u v h in
         ap (λ (x : ℕ). eqb x 1) (with-other b (u % 64) (v % 64) w (λ f. n (omega arith)))
 
-pub bit-made : (b : Bool) (v u : ℕ) (ws : List ℕ) → v / 64 < length ws → assigned (bitMade b v ws) u ≡ cond (eqb u v) b (assigned ws u)
-unfolding bitMade assigned
+pub bit-made : (b : Bool) (v u : ℕ) (ws : List ℕ) → v / 64 < length ws → assigned (bit_made b v ws) u ≡ cond (eqb u v) b (assigned ws u)
+unfolding bit_made assigned
 bit-made b v u ws l = cases (eqb (u / 64) (v / 64)) refl
   where
     w : ℕ
-    w = wordWith b (v % 64) (get_or ws (v / 64) 0)
+    w = word_with b (v % 64) (get_or ws (v / 64) 0)
 
     cases : (t : Bool) → eqb (u / 64) (v / 64) ≡ t
         → bit_of (u % 64) (get_or (set ws (v / 64) w) (u / 64) 0) ≡ cond (eqb u v) b (bit_of (u % 64) (get_or ws (u / 64) 0))

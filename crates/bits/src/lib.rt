@@ -3,8 +3,8 @@
 // Assumes nothing.
 ghost use Rattle.std.specs.Prelude.{◌≡◌, not, ◌&&◌, [], ◌∷◌, ◌<◌};
 ghost use Rattle.definitions.specs.Literal.{index_of};
-ghost use Rattle.definitions.specs.Meaning.{isTrue, assigned, isKnown};
-ghost use Rattle.definitions.specs.Values.{wordWith, bitMade, valued, marked};
+ghost use Rattle.definitions.specs.Meaning.{is_true, assigned, is_known};
+ghost use Rattle.definitions.specs.Values.{word_with, bit_made, valued, marked};
 
 use literals::Lit;
 
@@ -21,7 +21,7 @@ pub fn bit_at(words: &[u64], index: usize) -> bool
 // The word with bit k made: its power of two is added or taken away where the bit is not yet as it should be.
 fn word_with(one: bool, k: usize, word: u64) -> u64
     requires { k < 64 }
-    ensures { result ≡ wordWith one k word }
+    ensures { result ≡ word_with one k word }
 {
     let power = 1u64 << k;
     if (word >> k) % 2 == 1 {
@@ -34,7 +34,7 @@ fn word_with(one: bool, k: usize, word: u64) -> u64
 }
 
 pub fn make_bit(words: &mut [u64], index: usize, one: bool)
-    ensures { words.new ≡ bitMade one index words.old }
+    ensures { words.new ≡ bit_made one index words.old }
 {
     let place = index / 64;
     if place >= words.len() {
@@ -46,7 +46,7 @@ pub fn make_bit(words: &mut [u64], index: usize, one: bool)
 
 // Whether the literal's variable is known with another value.
 pub fn is_otherwise(literal: Lit, values: &[u64], known: &[u64]) -> bool
-    ensures { result ≡ (isKnown values.now known.now (index_of literal.0) && not (isTrue (assigned values.now) literal.0)) }
+    ensures { result ≡ (is_known values.now known.now (index_of literal.0) && not (is_true (assigned values.now) literal.0)) }
 {
     let v = literal.var().index() as usize;
     if v / 64 >= values.len() {

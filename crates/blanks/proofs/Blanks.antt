@@ -9,12 +9,12 @@ use native.Mathlib.Numerals.{add-one}
 use borrow.Author.Tests.{ne_eqb}
 use lib.ListN.{length, get_or, drop, drop_of_length-le}
 use lib.Seq.{drop-cons}
-use Rattle.definitions.specs.Bytes.{space, tab, isBlank, blanks}
+use Rattle.definitions.specs.Bytes.{space, tab, is_blank, blanks}
 
-not-blank : (b : ℕ) → (b ≡ space → ⊥) → (b ≡ tab → ⊥) → isBlank b ≡ false
+not-blank : (b : ℕ) → (b ≡ space → ⊥) → (b ≡ tab → ⊥) → is_blank b ≡ false
 not-blank b p q = rw (ne_eqb b space p, ne_eqb b tab q)
 
-is-blank : (b : ℕ) → (b ≡ space) ⊎ (b ≡ tab) → isBlank b ≡ true
+is-blank : (b : ℕ) → (b ≡ space) ⊎ (b ≡ tab) → is_blank b ≡ true
 is-blank b (inl e) = rw e
 is-blank b (inr e) = rw e
 

@@ -9,51 +9,51 @@ use native.Mathlib.Numerals.{add-one}
 use borrow.Author.Tests.{ne_eqb}
 use lib.ListN.{length, get_or, drop, drop_of_length-le}
 use lib.Seq.{drop-cons}
-use Rattle.definitions.specs.Bytes.{lf, cr, is_at, lineEnding, untilEnding}
+use Rattle.definitions.specs.Bytes.{lf, cr, is_at, line_ending, until_ending}
 
 -- ---- the line ending at place i
 module _ (s : List ℕ) (i : ℕ) where
-  pub nothing_left : length s ≤ i → lineEnding (drop i s) ≡ 0
-  unfolding lineEnding
+  pub nothing_left : length s ≤ i → line_ending (drop i s) ≡ 0
+  unfolding line_ending
   nothing_left h = rw (drop_of_length-le s h)
 
   module _ (h : i < length s) where
-    pub ends-lf : get_or s i 0 ≡ lf → lineEnding (drop i s) ≡ 1
-    unfolding lineEnding
+    pub ends-lf : get_or s i 0 ≡ lf → line_ending (drop i s) ≡ 1
+    unfolding line_ending
     ends-lf e = rw (drop-cons s i 0 h, e)
 
     -- an LF must stand behind a CR
-    pub ends-cr-lf : get_or s i 0 ≡ cr → suc i < length s → get_or s (suc i) 0 ≡ lf → lineEnding (drop i s) ≡ 2
-    unfolding lineEnding is_at
+    pub ends-cr-lf : get_or s i 0 ≡ cr → suc i < length s → get_or s (suc i) 0 ≡ lf → line_ending (drop i s) ≡ 2
+    unfolding line_ending is_at
     ends-cr-lf e g f = rw (drop-cons s i 0 h, e, drop-cons s (suc i) 0 g, f)
 
     module _ (n : get_or s i 0 ≡ lf → ⊥) where
-      pub no-cr : (get_or s i 0 ≡ cr → ⊥) → lineEnding (drop i s) ≡ 0
-      unfolding lineEnding
+      pub no-cr : (get_or s i 0 ≡ cr → ⊥) → line_ending (drop i s) ≡ 0
+      unfolding line_ending
       no-cr e = rw (drop-cons s i 0 h, ne_eqb (get_or s i 0) lf n, ne_eqb (get_or s i 0) cr e)
 
-      pub cr-at-end : length s ≤ suc i → lineEnding (drop i s) ≡ 0
-      unfolding lineEnding is_at
+      pub cr-at-end : length s ≤ suc i → line_ending (drop i s) ≡ 0
+      unfolding line_ending is_at
       cr-at-end g = rw (drop-cons s i 0 h, ne_eqb (get_or s i 0) lf n, drop_of_length-le s g) (simp and-false)
 
-      pub cr-alone : suc i < length s → (get_or s (suc i) 0 ≡ lf → ⊥) → lineEnding (drop i s) ≡ 0
-      unfolding lineEnding is_at
+      pub cr-alone : suc i < length s → (get_or s (suc i) 0 ≡ lf → ⊥) → line_ending (drop i s) ≡ 0
+      unfolding line_ending is_at
       cr-alone g e =
           rw (drop-cons s i 0 h, ne_eqb (get_or s i 0) lf n, drop-cons s (suc i) 0 g, ne_eqb (get_or s (suc i) 0) lf e) (simp and-false)
 
 -- ---- the walk
 module _ (s : List ℕ) (i : ℕ) (h : i < length s) where
-  stops : (n : ℕ) → lineEnding (drop i s) ≡ suc n → untilEnding (drop i s) ≡ 0
-  unfolding untilEnding
+  stops : (n : ℕ) → line_ending (drop i s) ≡ suc n → until_ending (drop i s) ≡ 0
+  unfolding until_ending
   stops n e =
-      let f : lineEnding (get_or s i 0 ∷ drop (suc i) s) ≡ suc n = rw (drop-cons s i 0 h) at e in
-      rw (drop-cons s i 0 h, f, untilEnding)
+      let f : line_ending (get_or s i 0 ∷ drop (suc i) s) ≡ suc n = rw (drop-cons s i 0 h) at e in
+      rw (drop-cons s i 0 h, f, until_ending)
 
-  goes_on : lineEnding (drop i s) ≡ 0 → untilEnding (drop i s) ≡ suc (untilEnding (drop (suc i) s))
-  unfolding untilEnding
+  goes_on : line_ending (drop i s) ≡ 0 → until_ending (drop i s) ≡ suc (until_ending (drop (suc i) s))
+  unfolding until_ending
   goes_on e =
-      let f : lineEnding (get_or s i 0 ∷ drop (suc i) s) ≡ 0 = rw (drop-cons s i 0 h) at e in
-      rw (drop-cons s i 0 h, f, untilEnding)
+      let f : line_ending (get_or s i 0 ∷ drop (suc i) s) ≡ 0 = rw (drop-cons s i 0 h) at e in
+      rw (drop-cons s i 0 h, f, until_ending)
 
 pred-suc : (k : ℕ) → suc k - 1 ≡ k
 pred-suc k = omega arith
@@ -61,39 +61,39 @@ pred-suc k = omega arith
 -- of i bytes passed none is an LF; the last may be a CR that belongs to an ending
 abbrev pub Sought : List ℕ → ℕ → Type 0
 Sought s zero = Unit
-Sought s (suc k) = (untilEnding s ≡ k + untilEnding (drop k s)) × (get_or s k 0 ≡ lf → ⊥)
+Sought s (suc k) = (until_ending s ≡ k + until_ending (drop k s)) × (get_or s k 0 ≡ lf → ⊥)
 
 module _ (s : List ℕ) where
   pub sought-more : (i : ℕ) → Sought s i → i < length s → (get_or s i 0 ≡ lf → ⊥) → Sought s (i + 1)
   sought-more zero p h n = (omega arith, n)
   sought-more (suc k) p h n =
-      let e : lineEnding (drop k s) ≡ 0 = cr-alone s k (omega arith) p.1 h n in
+      let e : line_ending (drop k s) ≡ 0 = cr-alone s k (omega arith) p.1 h n in
       rw (add-one (suc k)) (omega (arith, p.0, goes_on s k (omega arith) e), n)
 
-  pub sought-all : (i : ℕ) → Sought s i → i ≡ length s → i ≡ untilEnding s
-  unfolding untilEnding
+  pub sought-all : (i : ℕ) → Sought s i → i ≡ length s → i ≡ until_ending s
+  unfolding until_ending
   sought-all zero p h =
       let g : length s ≤ 0 = omega arith in
-      let z : untilEnding (drop 0 s) ≡ 0 = rw (drop_of_length-le s g) in
+      let z : until_ending (drop 0 s) ≡ 0 = rw (drop_of_length-le s g) in
       omega arith
   sought-all (suc k) p h =
       let g : length s ≤ suc k = omega arith in
-      let e : lineEnding (drop k s) ≡ 0 = cr-at-end s k (omega arith) p.1 g in
-      let z : untilEnding (drop (suc k) s) ≡ 0 = rw (drop_of_length-le s g) in
+      let e : line_ending (drop k s) ≡ 0 = cr-at-end s k (omega arith) p.1 g in
+      let z : until_ending (drop (suc k) s) ≡ 0 = rw (drop_of_length-le s g) in
       omega (arith, p.0, goes_on s k (omega arith) e)
 
   -- an LF is found: at the front, behind a CR, behind another byte
-  pub sought-front : (i : ℕ) → i < length s → get_or s i 0 ≡ lf → i ≤ 0 → i ≡ untilEnding s
+  pub sought-front : (i : ℕ) → i < length s → get_or s i 0 ≡ lf → i ≤ 0 → i ≡ until_ending s
   sought-front zero h f z = sym (stops s 0 h 0 (ends-lf s 0 h f))
   sought-front (suc k) h f z = absurd (omega arith)
 
-  pub sought-cr : (i : ℕ) → Sought s i → i < length s → get_or s i 0 ≡ lf → 0 < i → get_or s (i - 1) 0 ≡ cr → i - 1 ≡ untilEnding s
+  pub sought-cr : (i : ℕ) → Sought s i → i < length s → get_or s i 0 ≡ lf → 0 < i → get_or s (i - 1) 0 ≡ cr → i - 1 ≡ until_ending s
   sought-cr zero p h f z e = absurd (omega arith)
   sought-cr (suc k) p h f z e =
       let b : k < length s = omega arith in
       omega (arith, p.0, stops s k b 1 (ends-cr-lf s k b (rw (pred-suc k) at e) h f))
 
-  pub sought-lf : (i : ℕ) → Sought s i → i < length s → get_or s i 0 ≡ lf → 0 < i → (get_or s (i - 1) 0 ≡ cr → ⊥) → i ≡ untilEnding s
+  pub sought-lf : (i : ℕ) → Sought s i → i < length s → get_or s i 0 ≡ lf → 0 < i → (get_or s (i - 1) 0 ≡ cr → ⊥) → i ≡ until_ending s
   sought-lf zero p h f z e = absurd (omega arith)
   sought-lf (suc k) p h f z e =
       let b : k < length s = omega arith in

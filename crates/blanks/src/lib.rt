@@ -1,6 +1,6 @@
 // Blanks and line endings at the front of a rest of the file (01, "The text"). Assumes nothing.
 ghost use Rattle.std.specs.Prelude.{◌≡◌};
-ghost use Rattle.definitions.specs.Bytes.{blanks, lineEnding, untilEnding};
+ghost use Rattle.definitions.specs.Bytes.{blanks, line_ending, until_ending};
 
 // How many blanks stand at the front.
 pub fn blanks_of(s: &[u8]) -> usize
@@ -21,7 +21,7 @@ pub fn blanks_of(s: &[u8]) -> usize
 
 // How many bytes a line ending at the front has, 0 where none stands there.
 pub fn line_ending_of(s: &[u8]) -> usize
-    ensures { result ≡ lineEnding s.now }
+    ensures { result ≡ line_ending s.now }
 {
     if s.len() == 0 {
         return 0;
@@ -43,7 +43,7 @@ pub fn line_ending_of(s: &[u8]) -> usize
 // How many bytes stand before the first line ending, or all. The walk looks for LF alone, and back at the one byte that
 // may belong to it.
 pub fn until_ending_of(s: &[u8]) -> usize
-    ensures { result ≡ untilEnding s.now }
+    ensures { result ≡ until_ending s.now }
 {
     let mut i: usize = 0;
     while i < s.len() {

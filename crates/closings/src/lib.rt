@@ -2,7 +2,7 @@
 // specs/Closed.antt says what each answer is in 01's numbers and values. Assumes nothing.
 ghost use Rattle.std.specs.Prelude.{◌≡◌};
 ghost use Rattle.definitions.specs.Text.{comparison, ending};
-ghost use Rattle.closings.specs.Closed.{saidRow, closedBy, endedBy};
+ghost use Rattle.closings.specs.Closed.{said_row, closed_by, ended_by};
 
 use definitions::{Entry, Fault, OBJECTIVE, Options, WEIGHT_LIMIT};
 use frames::{ComparisonRead, EndingRead};
@@ -17,7 +17,7 @@ pub enum RowRead {
 
 // What closes a constraint behind a sum of so many terms, and of the size; 8 "after the ending of its statement".
 pub fn close_constraint(s: &[u8], options: Options, terms: usize, size: u64) -> RowRead
-    ensures { saidRow result ≡ closedBy options terms size (comparison s.now) }
+    ensures { said_row result ≡ closed_by options terms size (comparison s.now) }
 {
     match frames::read_comparison(s) {
         ComparisonRead::Refused(e) => RowRead::Refused(e),
@@ -48,7 +48,7 @@ pub fn close_constraint(s: &[u8], options: Options, terms: usize, size: u64) -> 
 
 // The same for an objective, whose bound is 0.
 pub fn close_objective(s: &[u8], options: Options, terms: usize, size: u64) -> RowRead
-    ensures { saidRow result ≡ endedBy options terms size (ending s.now) }
+    ensures { said_row result ≡ ended_by options terms size (ending s.now) }
 {
     let EndingRead::Ending(_, taken) = frames::read_ending(s) else {
         return RowRead::Refused(Fault { number: 7 });

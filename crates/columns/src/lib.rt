@@ -1,7 +1,7 @@
 // What is asked of rows in lent columns (01, "Numbers and tables"), by reader, normaliser, evaluator and writer alike:
 // how many there is room for, which terms a row of a kind has, and whether they lie in their columns. Assumes nothing.
 ghost use Rattle.std.specs.Prelude.{◌≡◌, ◌+◌, min, leb, length};
-ghost use Rattle.columns.specs.Kinds.{termsOfKind, firstOfKind};
+ghost use Rattle.columns.specs.Kinds.{terms_of_kind, first_of_kind};
 
 use definitions::COMMENT;
 
@@ -39,14 +39,14 @@ pub fn in_column(first: usize, count: usize, room: usize) -> bool
 
 // How many terms a row has. A comment's count is that of its bytes.
 pub fn terms_of(kind: u8, count: usize) -> usize
-    ensures { result ≡ termsOfKind kind count }
+    ensures { result ≡ terms_of_kind kind count }
 {
     if kind == COMMENT { 0 } else { count }
 }
 
 // "Its first term (the count of terms before it)"; a comment's is its offset in the file.
 pub fn first_of(kind: u8, offset: usize, term: usize) -> usize
-    ensures { result ≡ firstOfKind kind offset term }
+    ensures { result ≡ first_of_kind kind offset term }
 {
     if kind == COMMENT { offset } else { term }
 }

@@ -6,7 +6,7 @@ use Rattle.definitions.specs.declared.Totals.{Totals}
 
 -- "9, then 10, once the whole file has read well": `fitted` (definitions/specs/Table), of which only the totals are
 -- known
-abbrev pub fittedTotals : ℕ → ℕ → Outcome Totals → Outcome Totals
-fittedTotals rows terms (refused r) = refused r
-fittedTotals rows terms (accepted n) =
+abbrev pub fitted_totals : ℕ → ℕ → Outcome Totals → Outcome Totals
+fitted_totals rows terms (refused r) = refused r
+fitted_totals rows terms (accepted n) =
     cond (leb n.rows rows) (cond (leb n.terms terms) (accepted n) (refused (refusal 10 n.terms))) (refused (refusal 9 n.rows))

@@ -1,16 +1,16 @@
 // The first walk over a file: every statement is checked, rows and terms are counted (01, "What must change shape"),
 // and what was counted is held against the room for it. Assumes nothing.
 ghost use Rattle.std.specs.Prelude.{◌≡◌};
-ghost use Rattle.definitions.specs.Answers.{saidCounted};
+ghost use Rattle.definitions.specs.Answers.{said_counted};
 ghost use Rattle.definitions.specs.Table.{counted};
 ghost use Rattle.definitions.specs.File.{lines_of, statements, file};
-ghost use Rattle.counts.specs.Fitted.{fittedTotals};
+ghost use Rattle.counts.specs.Fitted.{fitted_totals};
 
 use definitions::{Counted, FILE_LIMIT, Options, Refusal, Totals};
 use statements::StatementRead;
 
 fn count_statements(s: &[u8], options: Options) -> Counted
-    ensures { saidCounted result ≡ counted (lines_of (statements options s.now)) }
+    ensures { said_counted result ≡ counted (lines_of (statements options s.now)) }
 {
     let mut rows: usize = 0;
     let mut terms: usize = 0;
@@ -37,7 +37,7 @@ fn count_statements(s: &[u8], options: Options) -> Counted
 
 // "Reader's order: 1; then statement by statement": what a file holds, whatever room there is for it.
 pub fn count_file(s: &[u8], options: Options) -> Counted
-    ensures { saidCounted result ≡ counted (file options s.now) }
+    ensures { said_counted result ≡ counted (file options s.now) }
 {
     if s.len() > FILE_LIMIT {
         return Counted::Refused(Refusal {
@@ -50,7 +50,7 @@ pub fn count_file(s: &[u8], options: Options) -> Counted
 
 // "9, then 10, once the whole file has read well": what was counted, held against the room for rows and for terms.
 pub fn fitted(counted: Counted, rows: usize, terms: usize) -> Counted
-    ensures { saidCounted result ≡ fittedTotals rows terms (saidCounted counted) }
+    ensures { said_counted result ≡ fitted_totals rows terms (said_counted counted) }
 {
     match counted {
         Counted::Refused(early) => Counted::Refused(early),

@@ -1,4 +1,4 @@
--- How do columns fill? Laws of `over`, one entry or one part at a time; of `filled`, line by line; and of `rowByRow`,
+-- How do columns fill? Laws of `over`, one entry or one part at a time; of `filled`, line by line; and of `row_by_row`,
 -- for a walk that has passed some rows.
 use Prim.Native.Nat.{ℕ, suc, ◌+◌, ◌-◌, ◌≤◌, ◌<◌}
 use mathlib.Core.Path.{◌≡◌, refl, sym, ap, ◌∙◌}
@@ -14,9 +14,9 @@ use lib.ListN.{length, take, drop, get_or, set, length-append, length-drop, leng
 use lib.Seq.{drop-cons, drop-drop, set-append_seam, take-append_seam, drop-append_seam}
 use Rattle.definitions.specs.Lists.{over, joined, AllOf}
 use Rattle.definitions.specs.Refusal.{Refusal, refusal, needed, Checked, refuse, accept}
-use Rattle.definitions.specs.Row.{Term, weightOf, literalOf, Line, termsOf}
-use Rattle.definitions.specs.Table.{Table, table, rowRoom, termRoom, Outcome, refused, accepted, kindIn, firstIn, countIn}
-use Rattle.definitions.specs.Table.{boundIn, firstsFrom, allTerms, filled, fitted, onRow, rowByRow, and_then}
+use Rattle.definitions.specs.Row.{Term, weight_of, literal_of, Line, terms_of}
+use Rattle.definitions.specs.Table.{Table, table, row_room, term_room, Outcome, refused, accepted, kind_in, first_in, count_in}
+use Rattle.definitions.specs.Table.{bound_in, firsts_from, all_terms, filled, fitted, on_row, row_by_row, and_then}
 use Rattle.definitions.proofs.Parts.{part-is}
 use Rattle.definitions.proofs.Truths.{never}
 
@@ -83,28 +83,28 @@ module _ {A B : Type 0} (f : A → B) (pre : List A) (l₀ l : List B) (e : l �
       ap (λ (x : List B). set x n (f a)) e ∙ over-set (map f pre) l₀ n (f a) (q ∙ sym (length-map pre f)) h
       ∙ ap (λ (x : List B). over x l₀) (sym (map_snoc f pre a))
 
-pub firsts-length : (ls : List Line) (m : ℕ) → length (firstsFrom m ls) ≡ length ls
-unfolding firstsFrom
+pub firsts-length : (ls : List Line) (m : ℕ) → length (firsts_from m ls) ≡ length ls
+unfolding firsts_from
 firsts-length [] m = refl
-firsts-length (l ∷ ls) m = ap suc (firsts-length ls (m + length (termsOf l)))
+firsts-length (l ∷ ls) m = ap suc (firsts-length ls (m + length (terms_of l)))
 
 pub firsts-snoc : (ls : List Line) (l : Line) (m : ℕ)
-    → firstsFrom m (ls ++ (l ∷ [])) ≡ firstsFrom m ls ++ (firstIn (m + length (allTerms ls)) l ∷ [])
-unfolding firstsFrom joined
-firsts-snoc [] l m = ap (λ (k : ℕ). firstIn k l ∷ []) (omega arith)
+    → firsts_from m (ls ++ (l ∷ [])) ≡ firsts_from m ls ++ (first_in (m + length (all_terms ls)) l ∷ [])
+unfolding firsts_from joined
+firsts-snoc [] l m = ap (λ (k : ℕ). first_in k l ∷ []) (omega arith)
 firsts-snoc (x ∷ ls) l m =
-    let e : m + length (termsOf x) + length (allTerms ls) ≡ m + length (termsOf x ++ allTerms ls) =
-    omega (arith, length-append (termsOf x) (allTerms ls)) in
-    ap (λ (r : List ℕ). firstIn m x ∷ r)
-    (firsts-snoc ls l (m + length (termsOf x)) ∙ ap (λ (k : ℕ). firstsFrom (m + length (termsOf x)) ls ++ (firstIn k l ∷ [])) e)
+    let e : m + length (terms_of x) + length (all_terms ls) ≡ m + length (terms_of x ++ all_terms ls) =
+    omega (arith, length-append (terms_of x) (all_terms ls)) in
+    ap (λ (r : List ℕ). first_in m x ∷ r)
+    (firsts-snoc ls l (m + length (terms_of x)) ∙ ap (λ (k : ℕ). firsts_from (m + length (terms_of x)) ls ++ (first_in k l ∷ [])) e)
 
-pub terms-snoc : (ls : List Line) (l : Line) → length (allTerms (ls ++ (l ∷ []))) ≡ length (allTerms ls) + length (termsOf l)
-terms-snoc ls l = ap length (joined_snoc termsOf ls l) ∙ length-append (allTerms ls) (termsOf l)
+pub terms-snoc : (ls : List Line) (l : Line) → length (all_terms (ls ++ (l ∷ []))) ≡ length (all_terms ls) + length (terms_of l)
+terms-snoc ls l = ap length (joined_snoc terms_of ls l) ∙ length-append (all_terms ls) (terms_of l)
 
 -- ---- a table filled line by line
 
 pub filled_none : (o : Table) → filled [] o ≡ o
-unfolding filled firstsFrom joined
+unfolding filled firsts_from joined
 filled_none o = refl
 
 pub record Lengths (t o : Table) : Type 0 where
@@ -116,16 +116,16 @@ pub record Lengths (t o : Table) : Type 0 where
   pub literals : length t.literals ≡ length o.literals
 
 -- each column is as long as it was
-pub filled-lengths : (ls : List Line) (o : Table) → length ls ≤ rowRoom o → length (allTerms ls) ≤ termRoom o → Lengths (filled ls o) o
+pub filled-lengths : (ls : List Line) (o : Table) → length ls ≤ row_room o → length (all_terms ls) ≤ term_room o → Lengths (filled ls o) o
 unfolding filled
 filled-lengths ls o h g =
     record {
-      kinds = column-length kindIn ls o.kinds _ refl (omega arith);
-      firsts = over-length (firstsFrom 0 ls) o.firsts (omega (arith, firsts-length ls 0));
-      counts = column-length countIn ls o.counts _ refl (omega arith);
-      bounds = column-length boundIn ls o.bounds _ refl (omega arith);
-      weights = column-length weightOf (allTerms ls) o.weights _ refl (omega arith);
-      literals = column-length literalOf (allTerms ls) o.literals _ refl (omega arith);
+      kinds = column-length kind_in ls o.kinds _ refl (omega arith);
+      firsts = over-length (firsts_from 0 ls) o.firsts (omega (arith, firsts-length ls 0));
+      counts = column-length count_in ls o.counts _ refl (omega arith);
+      bounds = column-length bound_in ls o.bounds _ refl (omega arith);
+      weights = column-length weight_of (all_terms ls) o.weights _ refl (omega arith);
+      literals = column-length literal_of (all_terms ls) o.literals _ refl (omega arith);
     }
 
 table_eq : {k k' f f' n n' l l' : List ℕ} {b b' w w' : List ℤ} → k ≡ k' → f ≡ f' → n ≡ n' → b ≡ b' → w ≡ w' → l ≡ l'
@@ -133,37 +133,37 @@ table_eq : {k k' f f' n n' l l' : List ℕ} {b b' w w' : List ℤ} → k ≡ k' 
 table_eq p q r s t u = λ x. table (p x) (q x) (r x) (s x) (t x) (u x)
 
 -- a line more, behind ls
-module _ (ls : List Line) (y : Line) (o : Table) (n m : ℕ) (rows : n ≡ length ls) (terms : m ≡ length (allTerms ls))
-    (room : n < rowRoom o) where
-  firsts_more : set (over (firstsFrom 0 ls) o.firsts) n (firstIn m y) ≡ over (firstsFrom 0 (ls ++ (y ∷ []))) o.firsts
+module _ (ls : List Line) (y : Line) (o : Table) (n m : ℕ) (rows : n ≡ length ls) (terms : m ≡ length (all_terms ls))
+    (room : n < row_room o) where
+  firsts_more : set (over (firsts_from 0 ls) o.firsts) n (first_in m y) ≡ over (firsts_from 0 (ls ++ (y ∷ []))) o.firsts
   firsts_more =
-      over-set (firstsFrom 0 ls) o.firsts n (firstIn m y) (rows ∙ sym (firsts-length ls 0)) (omega arith)
-      ∙ ap (λ (k : ℕ). over (firstsFrom 0 ls ++ (firstIn k y ∷ [])) o.firsts) (omega arith)
+      over-set (firsts_from 0 ls) o.firsts n (first_in m y) (rows ∙ sym (firsts-length ls 0)) (omega arith)
+      ∙ ap (λ (k : ℕ). over (firsts_from 0 ls ++ (first_in k y ∷ [])) o.firsts) (omega arith)
       ∙ ap (λ (r : List ℕ). over r o.firsts) (sym (firsts-snoc ls y 0))
 
   terms-more : {A : Type 0} (f : Term → A) (l : List A)
-      → take m (over (map f (allTerms ls)) l) ++ over (map f (termsOf y)) (drop m (over (map f (allTerms ls)) l))
-      ≡ over (map f (allTerms (ls ++ (y ∷ [])))) l
+      → take m (over (map f (all_terms ls)) l) ++ over (map f (terms_of y)) (drop m (over (map f (all_terms ls)) l))
+      ≡ over (map f (all_terms (ls ++ (y ∷ [])))) l
   terms-more {A} f l =
-      over-part (map f (allTerms ls)) (map f (termsOf y)) l m (terms ∙ sym (length-map (allTerms ls) f))
-      ∙ ap (λ (r : List A). over r l) (sym (ap (map f) (joined_snoc termsOf ls y) ∙ map-append f (allTerms ls) (termsOf y)))
+      over-part (map f (all_terms ls)) (map f (terms_of y)) l m (terms ∙ sym (length-map (all_terms ls) f))
+      ∙ ap (λ (r : List A). over r l) (sym (ap (map f) (joined_snoc terms_of ls y) ∙ map-append f (all_terms ls) (terms_of y)))
 
   pub filled_more : (t : Table) (w : List ℤ) (l : List ℕ) → t ≡ filled ls o
-      → w ≡ take m t.weights ++ over (map weightOf (termsOf y)) (drop m t.weights)
-      → l ≡ take m t.literals ++ over (map literalOf (termsOf y)) (drop m t.literals)
-      → table (set t.kinds n (kindIn y)) (set t.firsts n (firstIn m y)) (set t.counts n (countIn y))
-      (set t.bounds n (boundIn y)) w l ≡ filled (ls ++ (y ∷ [])) o
+      → w ≡ take m t.weights ++ over (map weight_of (terms_of y)) (drop m t.weights)
+      → l ≡ take m t.literals ++ over (map literal_of (terms_of y)) (drop m t.literals)
+      → table (set t.kinds n (kind_in y)) (set t.firsts n (first_in m y)) (set t.counts n (count_in y))
+      (set t.bounds n (bound_in y)) w l ≡ filled (ls ++ (y ∷ [])) o
   unfolding filled
   filled_more t w l e p q =
       table_eq
-      (column-more kindIn ls o.kinds t.kinds (ap (λ (x : Table). x.kinds) e) n y rows (omega arith))
-      (ap (λ (x : Table). set x.firsts n (firstIn m y)) e ∙ firsts_more)
-      (column-more countIn ls o.counts t.counts (ap (λ (x : Table). x.counts) e) n y rows (omega arith))
-      (column-more boundIn ls o.bounds t.bounds (ap (λ (x : Table). x.bounds) e) n y rows (omega arith))
-      (p ∙ ap (λ (x : Table). take m x.weights ++ over (map weightOf (termsOf y)) (drop m x.weights)) e
-      ∙ terms-more weightOf o.weights)
-      (q ∙ ap (λ (x : Table). take m x.literals ++ over (map literalOf (termsOf y)) (drop m x.literals)) e
-      ∙ terms-more literalOf o.literals)
+      (column-more kind_in ls o.kinds t.kinds (ap (λ (x : Table). x.kinds) e) n y rows (omega arith))
+      (ap (λ (x : Table). set x.firsts n (first_in m y)) e ∙ firsts_more)
+      (column-more count_in ls o.counts t.counts (ap (λ (x : Table). x.counts) e) n y rows (omega arith))
+      (column-more bound_in ls o.bounds t.bounds (ap (λ (x : Table). x.bounds) e) n y rows (omega arith))
+      (p ∙ ap (λ (x : Table). take m x.weights ++ over (map weight_of (terms_of y)) (drop m x.weights)) e
+      ∙ terms-more weight_of o.weights)
+      (q ∙ ap (λ (x : Table). take m x.literals ++ over (map literal_of (terms_of y)) (drop m x.literals)) e
+      ∙ terms-more literal_of o.literals)
 
 -- ---- row by row
 
@@ -176,7 +176,7 @@ module _ {B : Type 0} where
   onto-none (refused r) = refl
   onto-none (accepted bs) = refl
 
-  onto-row : (pre : List B) (i : ℕ) (b : B) (o : Outcome (List B)) → onto pre (onRow i (accept b) o) ≡ onto (pre ++ (b ∷ [])) o
+  onto-row : (pre : List B) (i : ℕ) (b : B) (o : Outcome (List B)) → onto pre (on_row i (accept b) o) ≡ onto (pre ++ (b ∷ [])) o
   onto-row pre i b (refused r) = refl
   onto-row pre i b (accepted bs) = ap accepted (sym (append_assoc pre (b ∷ []) bs))
 
@@ -192,47 +192,47 @@ module _ {B : Type 0} where
   pub begins-length : (pre bs : List B) → Begins pre bs → length pre ≤ length bs
   begins-length pre bs p = omega (arith, ap length p.is, length-append pre p.rest)
 
-pub begins-terms : (pre ls : List Line) → Begins pre ls → length (allTerms pre) ≤ length (allTerms ls)
+pub begins-terms : (pre ls : List Line) → Begins pre ls → length (all_terms pre) ≤ length (all_terms ls)
 begins-terms pre ls p =
     omega (
       arith,
-      ap (λ (x : List Line). length (allTerms x)) p.is ∙ ap length (joined-append termsOf pre p.rest)
-          ∙ length-append (allTerms pre) (allTerms p.rest),
+      ap (λ (x : List Line). length (all_terms x)) p.is ∙ ap length (joined-append terms_of pre p.rest)
+          ∙ length-append (all_terms pre) (all_terms p.rest),
     )
 
 module _ {A B : Type 0} (f : A → Checked B) (es : List A) where
   -- i rows passed, which gave pre
   pub record Passed (i : ℕ) (pre : List B) : Type 0 where
     pub count : length pre ≡ i
-    pub split : rowByRow f 0 es ≡ onto pre (rowByRow f i (drop i es))
+    pub split : row_by_row f 0 es ≡ onto pre (row_by_row f i (drop i es))
 
   pub passed_none : Passed 0 []
-  passed_none = record { count = refl; split = onto-none (rowByRow f 0 es) }
+  passed_none = record { count = refl; split = onto-none (row_by_row f 0 es) }
 
   module _ (i : ℕ) (pre : List B) (p : Passed i pre) where
-    pub passed-all : drop i es ≡ [] → rowByRow f 0 es ≡ accepted pre
-    unfolding rowByRow
-    passed-all e = p.split ∙ ap (λ (l : List A). onto pre (rowByRow f i l)) e ∙ ap accepted (append-nil pre)
+    pub passed-all : drop i es ≡ [] → row_by_row f 0 es ≡ accepted pre
+    unfolding row_by_row
+    passed-all e = p.split ∙ ap (λ (l : List A). onto pre (row_by_row f i l)) e ∙ ap accepted (append-nil pre)
 
     module _ (a : A) (d : drop i es ≡ a ∷ drop (i + 1) es) where
-      at_row : rowByRow f 0 es ≡ onto pre (onRow i (f a) (rowByRow f (i + 1) (drop (i + 1) es)))
-      unfolding rowByRow
-      at_row = p.split ∙ ap (λ (l : List A). onto pre (rowByRow f i l)) d
+      at_row : row_by_row f 0 es ≡ onto pre (on_row i (f a) (row_by_row f (i + 1) (drop (i + 1) es)))
+      unfolding row_by_row
+      at_row = p.split ∙ ap (λ (l : List A). onto pre (row_by_row f i l)) d
 
-      pub passed-refused : (n : ℕ) → f a ≡ refuse n → rowByRow f 0 es ≡ refused (refusal n i)
-      passed-refused n e = at_row ∙ ap (λ (c : Checked B). onto pre (onRow i c (rowByRow f (i + 1) (drop (i + 1) es)))) e
+      pub passed-refused : (n : ℕ) → f a ≡ refuse n → row_by_row f 0 es ≡ refused (refusal n i)
+      passed-refused n e = at_row ∙ ap (λ (c : Checked B). onto pre (on_row i c (row_by_row f (i + 1) (drop (i + 1) es)))) e
 
       pub passed-more : (b : B) → f a ≡ accept b → Passed (i + 1) (pre ++ (b ∷ []))
       passed-more b e =
           record {
             count = omega (arith, length-append pre (b ∷ []), p.count);
             split = at_row
-                ∙ ap (λ (c : Checked B). onto pre (onRow i c (rowByRow f (i + 1) (drop (i + 1) es)))) e
-                ∙ onto-row pre i b (rowByRow f (i + 1) (drop (i + 1) es));
+                ∙ ap (λ (c : Checked B). onto pre (on_row i c (row_by_row f (i + 1) (drop (i + 1) es)))) e
+                ∙ onto-row pre i b (row_by_row f (i + 1) (drop (i + 1) es));
           }
 
       -- where all are accepted, so is this one
-      module _ (bs : List B) (all : rowByRow f 0 es ≡ accepted bs) where
+      module _ (bs : List B) (all : row_by_row f 0 es ≡ accepted bs) where
         pub record Next : Type 0 where
           pub value : B
           pub accepts : f a ≡ accept value
@@ -247,27 +247,27 @@ module _ {A B : Type 0} (f : A → Checked B) (es : List A) where
                 clash x y = never cc
             by (accept b) e = record { value = b; accepts = e }
 
-    pub passed-begins : (bs : List B) → rowByRow f 0 es ≡ accepted bs → Begins pre bs
-    passed-begins bs e = begins-by pre bs (rowByRow f i (drop i es)) (sym p.split ∙ e)
+    pub passed-begins : (bs : List B) → row_by_row f 0 es ≡ accepted bs → Begins pre bs
+    passed-begins bs e = begins-by pre bs (row_by_row f i (drop i es)) (sym p.split ∙ e)
 
 -- two checks one after the other, of which the second gives k of what the first gave
 module _ {A B C : Type 0} (g : A → Checked B) (h : B → Checked C) (k : B → C) (each : (b : B) (c : C) → h b ≡ accept c → c ≡ k b) where
   pub record Both (i : ℕ) (l : List A) (cs : List C) : Type 0 where
     pub first : List B
-    pub accepts : rowByRow g i l ≡ accepted first
+    pub accepts : row_by_row g i l ≡ accepted first
     pub then : cs ≡ map k first
 
-  pub rows_both : (i : ℕ) (l : List A) (cs : List C) → rowByRow (λ (a : A). and_then (g a) h) i l ≡ accepted cs → Both i l cs
-  unfolding rowByRow
+  pub rows_both : (i : ℕ) (l : List A) (cs : List C) → row_by_row (λ (a : A). and_then (g a) h) i l ≡ accepted cs → Both i l cs
+  unfolding row_by_row
   rows_both i [] cs e = record { first = []; accepts = refl; then = cc }
-  rows_both i (a ∷ l) cs e = by (g a) refl (rowByRow (λ (x : A). and_then (g x) h) (i + 1) l) e (λ xs q. rows_both (i + 1) l xs q)
+  rows_both i (a ∷ l) cs e = by (g a) refl (row_by_row (λ (x : A). and_then (g x) h) (i + 1) l) e (λ xs q. rows_both (i + 1) l xs q)
     where
-      by : (c : Checked B) → g a ≡ c → (o : Outcome (List C)) → onRow i (and_then c h) o ≡ accepted cs
+      by : (c : Checked B) → g a ≡ c → (o : Outcome (List C)) → on_row i (and_then c h) o ≡ accepted cs
           → ((xs : List C) → o ≡ accepted xs → Both (i + 1) l xs) → Both i (a ∷ l) cs
       by (refuse n) q o e ih = never cc
       by (accept b) q o e ih = on (h b) refl o e ih
         where
-          on : (d : Checked C) → h b ≡ d → (o : Outcome (List C)) → onRow i d o ≡ accepted cs
+          on : (d : Checked C) → h b ≡ d → (o : Outcome (List C)) → on_row i d o ≡ accepted cs
               → ((xs : List C) → o ≡ accepted xs → Both (i + 1) l xs) → Both i (a ∷ l) cs
           on (refuse n) p o e ih = never cc
           on (accept c) p (refused r) e ih = never cc
@@ -283,16 +283,16 @@ module _ {A B C : Type 0} (g : A → Checked B) (h : B → Checked C) (k : B →
 
 -- a second check that gives what it was given
 pub rows-again : {A B : Type 0} (g : A → Checked B) (h : B → Checked B) (i : ℕ) (l : List A) (bs : List B)
-    → rowByRow g i l ≡ accepted bs → AllOf (λ (b : B). h b ≡ accept b) bs
-    → rowByRow (λ (a : A). and_then (g a) h) i l ≡ accepted bs
-unfolding rowByRow
+    → row_by_row g i l ≡ accepted bs → AllOf (λ (b : B). h b ≡ accept b) bs
+    → row_by_row (λ (a : A). and_then (g a) h) i l ≡ accepted bs
+unfolding row_by_row
 rows-again g h i [] bs e x = e
-rows-again {A} {B} g h i (a ∷ l) bs e x = by (g a) refl (rowByRow g (i + 1) l) bs e x (λ ys q y. rows-again g h (i + 1) l ys q y)
+rows-again {A} {B} g h i (a ∷ l) bs e x = by (g a) refl (row_by_row g (i + 1) l) bs e x (λ ys q y. rows-again g h (i + 1) l ys q y)
   where
-    by : (c : Checked B) → g a ≡ c → (o : Outcome (List B)) (bs : List B) → onRow i c o ≡ accepted bs → AllOf (λ (b : B). h b ≡ accept b) bs
+    by : (c : Checked B) → g a ≡ c → (o : Outcome (List B)) (bs : List B) → on_row i c o ≡ accepted bs → AllOf (λ (b : B). h b ≡ accept b) bs
         → ((ys : List B) → o ≡ accepted ys → AllOf (λ (b : B). h b ≡ accept b) ys
-        → rowByRow (λ (y : A). and_then (g y) h) (i + 1) l ≡ accepted ys)
-        → onRow i (and_then (g a) h) (rowByRow (λ (y : A). and_then (g y) h) (i + 1) l) ≡ accepted bs
+        → row_by_row (λ (y : A). and_then (g y) h) (i + 1) l ≡ accepted ys)
+        → on_row i (and_then (g a) h) (row_by_row (λ (y : A). and_then (g y) h) (i + 1) l) ≡ accepted bs
     by (refuse n) q o bs e x ih = never cc
     by (accept b) q (refused r) bs e x ih = never cc
     by (accept b) q (accepted xs) [] e x ih = never cc
@@ -305,28 +305,28 @@ rows-again {A} {B} g h i (a ∷ l) bs e x = by (g a) refl (rowByRow g (i + 1) l)
 
 pub record Fits (o : Table) (q : Outcome (List Line)) (ls : List Line) : Type 0 where
   pub accepts : q ≡ accepted ls
-  pub rows : length ls ≤ rowRoom o
-  pub terms : length (allTerms ls) ≤ termRoom o
+  pub rows : length ls ≤ row_room o
+  pub terms : length (all_terms ls) ≤ term_room o
 
 pub fitted-accepted : (o : Table) (q : Outcome (List Line)) (ls : List Line) → fitted o q ≡ accepted ls → Fits o q ls
 unfolding fitted
 fitted-accepted o (refused r) ls e = never cc
-fitted-accepted o (accepted ys) ls e = by (leb (length ys) (rowRoom o)) refl (leb (length (allTerms ys)) (termRoom o)) refl e
+fitted-accepted o (accepted ys) ls e = by (leb (length ys) (row_room o)) refl (leb (length (all_terms ys)) (term_room o)) refl e
   where
-    by : (p : Bool) → leb (length ys) (rowRoom o) ≡ p → (s : Bool) → leb (length (allTerms ys)) (termRoom o) ≡ s
-        → cond p (cond s (accepted ys) (refused (refusal 10 (needed (length (allTerms ys))))))
+    by : (p : Bool) → leb (length ys) (row_room o) ≡ p → (s : Bool) → leb (length (all_terms ys)) (term_room o) ≡ s
+        → cond p (cond s (accepted ys) (refused (refusal 10 (needed (length (all_terms ys))))))
         (refused (refusal 9 (needed (length ys)))) ≡ accepted ls → Fits o (accepted ys) ls
     by true u true v e =
         let z : ys ≡ ls = cc in
         rw (← z) (record {
           accepts = refl;
-          rows = leb-true (length ys) (rowRoom o) u;
-          terms = leb-true (length (allTerms ys)) (termRoom o) v;
+          rows = leb-true (length ys) (row_room o) u;
+          terms = leb-true (length (all_terms ys)) (term_room o) v;
         })
     by true u false v e = never cc
     by false u s v e = never cc
 
-pub fitted-all : (o : Table) (ls : List Line) → length ls ≤ rowRoom o → length (allTerms ls) ≤ termRoom o
+pub fitted-all : (o : Table) (ls : List Line) → length ls ≤ row_room o → length (all_terms ls) ≤ term_room o
     → fitted o (accepted ls) ≡ accepted ls
 unfolding fitted
-fitted-all o ls r n = rw (le-leb (length ls) (rowRoom o) r, le-leb (length (allTerms ls)) (termRoom o) n)
+fitted-all o ls r n = rw (le-leb (length ls) (row_room o) r, le-leb (length (all_terms ls)) (term_room o) n)

@@ -16,10 +16,10 @@ use lib.Signed.{lt_z}
 use mir.Syntax.{w64}
 use mir.Val.{SFits}
 use Rattle.definitions.specs.Refusal.{Fault, fault}
-use Rattle.definitions.specs.Limits.{inI64}
-use Rattle.definitions.specs.Bytes.{isDigit, plus, minus}
+use Rattle.definitions.specs.Limits.{in_i64}
+use Rattle.definitions.specs.Bytes.{is_digit, plus, minus}
 use Rattle.definitions.specs.Reader.{Got, none, got}
-use Rattle.definitions.specs.Number.{leading, valueOn, value, signed, ended, number, decimalIn, decimal, integerText}
+use Rattle.definitions.specs.Number.{leading, value_on, value, signed, ended, number, decimal_in, decimal, integer_text}
 use Rattle.definitions.proofs.Truths.{never, cond_same}
 use Rattle.definitions.proofs.Whole.{abs_is, one_side, up_pos, dn-pos, up_neg, dn-neg, in-up, in-dn, is-in, in-true, true-in}
 use Rattle.definitions.proofs.Whole.{over-up, over-dn}
@@ -41,7 +41,7 @@ leading-high b s h = rw (le-leb 48 b (omega arith), lt-leb b 57 h, leading)
 pub leading_length : (s : List ℕ) → length (leading s) ≤ length s
 unfolding leading
 leading_length [] = omega arith
-leading_length (b ∷ s) = cases (isDigit b) (leading_length s)
+leading_length (b ∷ s) = cases (is_digit b) (leading_length s)
   where
     cases : (d : Bool) → length (leading s) ≤ length s → length {A = ℕ} (elim d [ true ↦ b ∷ leading s | false ↦ [] ]) ≤ length (b ∷ s)
     cases true h = omega arith
@@ -57,8 +57,8 @@ leading-head (b ∷ s) h = (omega arith, cases (dec_lt b 48))
     cases (yes l) = let e : length (leading (b ∷ s)) ≡ 0 = rw (leading_low b s l) in omega arith
     cases (no l) = omega arith
 
-pub value-snoc : (a : ℕ) (s : List ℕ) (b : ℕ) → valueOn a (s ++ (b ∷ [])) ≡ valueOn a s * 10 + (b - 48)
-unfolding valueOn
+pub value-snoc : (a : ℕ) (s : List ℕ) (b : ℕ) → value_on a (s ++ (b ∷ [])) ≡ value_on a s * 10 + (b - 48)
+unfolding value_on
 value-snoc a [] b = refl
 value-snoc a (x ∷ s) b = value-snoc (a * 10 + (x - 48)) s b
 
@@ -69,16 +69,16 @@ abbrev pub most : Bool → ℕ
 most true = 9_223_372_036_854_775_808
 most false = 9_223_372_036_854_775_807
 
-pub signed-within : (negative : Bool) (m : ℕ) → m ≤ most negative → inI64 (signed negative m) ≡ true
+pub signed-within : (negative : Bool) (m : ℕ) → m ≤ most negative → in_i64 (signed negative m) ≡ true
 signed-within true m h =
     in-true _ (is-in _ (omega (arith, up_neg (pos m), dn-pos m)) (omega (arith, dn-neg (pos m), up_pos m)))
 signed-within false m h = in-true (pos m) (is-in (pos m) (omega (arith, up_pos m)) (omega (arith, dn-pos m)))
 
-pub within_signed : (negative : Bool) (m : ℕ) → inI64 (signed negative m) ≡ true → m ≤ most negative
+pub within_signed : (negative : Bool) (m : ℕ) → in_i64 (signed negative m) ≡ true → m ≤ most negative
 within_signed true m e = omega (arith, in-dn _ (true-in _ e), dn-neg (pos m), up_pos m)
 within_signed false m e = omega (arith, in-up _ (true-in (pos m) e), up_pos m)
 
-pub signed-beyond : (negative : Bool) (m : ℕ) → most negative < m → inI64 (signed negative m) ≡ false
+pub signed-beyond : (negative : Bool) (m : ℕ) → most negative < m → in_i64 (signed negative m) ≡ false
 signed-beyond true m h = over-dn _ (omega (arith, dn-neg (pos m), up_pos m))
 signed-beyond false m h = over-up (pos m) (omega (arith, up_pos m))
 
@@ -112,12 +112,12 @@ pub ended-none : (negative : Bool) (k : ℕ) (ds : List ℕ) → length ds ≡ 0
 unfolding ended
 ended-none negative k ds e = rw e
 
-pub ended-beyond : (negative : Bool) (k : ℕ) (ds : List ℕ) → inI64 (signed negative (value ds)) ≡ false
+pub ended-beyond : (negative : Bool) (k : ℕ) (ds : List ℕ) → in_i64 (signed negative (value ds)) ≡ false
     → ended negative k ds ≡ none (fault 3)
 unfolding ended
 ended-beyond negative k ds e = rw e (cond_same (eqb (length ds) 0) (none (fault 3)))
 
-pub ended-got : (negative : Bool) (k : ℕ) (ds : List ℕ) → (length ds ≡ 0 → ⊥) → inI64 (signed negative (value ds)) ≡ true
+pub ended-got : (negative : Bool) (k : ℕ) (ds : List ℕ) → (length ds ≡ 0 → ⊥) → in_i64 (signed negative (value ds)) ≡ true
     → ended negative k ds ≡ got (signed negative (value ds)) (k + length ds)
 unfolding ended
 ended-got negative k ds n e = rw (ne_eqb (length ds) 0 n, e)
@@ -125,17 +125,17 @@ ended-got negative k ds n e = rw (ne_eqb (length ds) 0 n, e)
 -- what holds of refusal 3, and of each number of 64 bits that takes some of the bytes, holds of the answer
 module _ {ℓ} (P : Got ℤ → Type ℓ) where
   ended_is : (negative : Bool) (k : ℕ) (ds : List ℕ) → P (none (fault 3))
-      → ((z : ℤ) (n : ℕ) → k < n → n ≤ k + length ds → inI64 z ≡ true → P (got z n)) → P (ended negative k ds)
+      → ((z : ℤ) (n : ℕ) → k < n → n ≤ k + length ds → in_i64 z ≡ true → P (got z n)) → P (ended negative k ds)
   unfolding ended
-  ended_is negative k ds refused read = cases (eqb (length ds) 0) (inI64 (signed negative (value ds))) (eqb-false (length ds) 0) (λ e. e)
+  ended_is negative k ds refused read = cases (eqb (length ds) 0) (in_i64 (signed negative (value ds))) (eqb-false (length ds) 0) (λ e. e)
     where
-      cases : (a b : Bool) → (a ≡ false → length ds ≡ 0 → ⊥) → (b ≡ true → inI64 (signed negative (value ds)) ≡ true)
+      cases : (a b : Bool) → (a ≡ false → length ds ≡ 0 → ⊥) → (b ≡ true → in_i64 (signed negative (value ds)) ≡ true)
           → P (cond a (none (fault 3)) (cond b (got (signed negative (value ds)) (k + length ds)) (none (fault 3))))
       cases true b f g = refused
       cases false true f g = let some : length ds ≡ 0 → ⊥ = f refl in read _ _ (omega (arith, some)) (omega arith) (g refl)
       cases false false f g = refused
 
-  pub number_is : (s : List ℕ) → P (none (fault 3)) → ((z : ℤ) (n : ℕ) → 0 < n → n ≤ length s → inI64 z ≡ true → P (got z n)) → P (number s)
+  pub number_is : (s : List ℕ) → P (none (fault 3)) → ((z : ℤ) (n : ℕ) → 0 < n → n ≤ length s → in_i64 z ≡ true → P (got z n)) → P (number s)
   unfolding number
   number_is [] refused read = refused
   number_is (b ∷ s) refused read = cases (eqb b minus) (eqb b plus)
@@ -165,20 +165,20 @@ number_fits s {z} {n} =
 -- ---- the digits of a number
 
 -- more room than the number needs changes nothing
-small-in : (k n : ℕ) → n < 10 → decimalIn (suc k) n ≡ (48 + n) ∷ []
-unfolding decimalIn
-small-in k n h = rw (lt-ltb n 10 h, decimalIn)
+small-in : (k n : ℕ) → n < 10 → decimal_in (suc k) n ≡ (48 + n) ∷ []
+unfolding decimal_in
+small-in k n h = rw (lt-ltb n 10 h, decimal_in)
 
-big-in : (k n : ℕ) → 10 ≤ n → decimalIn (suc k) n ≡ decimalIn k (n / 10) ++ ((48 + n % 10) ∷ [])
-unfolding decimalIn
-big-in k n h = rw (le-ltb n 10 h, decimalIn)
+big-in : (k n : ℕ) → 10 ≤ n → decimal_in (suc k) n ≡ decimal_in k (n / 10) ++ ((48 + n % 10) ∷ [])
+unfolding decimal_in
+big-in k n h = rw (le-ltb n 10 h, decimal_in)
 
-any-room : (k j n : ℕ) → n < k → n < j → decimalIn k n ≡ decimalIn j n
+any-room : (k j n : ℕ) → n < k → n < j → decimal_in k n ≡ decimal_in j n
 any-room zero j n h g = absurd (omega arith)
 any-room (suc k) zero n h g = absurd (omega arith)
 any-room (suc k) (suc j) n h g = cases (dec_lt n 10) (λ b. any-room k j (n / 10) (omega arith) (omega arith))
   where
-    cases : Dec (n < 10) → (10 ≤ n → decimalIn k (n / 10) ≡ decimalIn j (n / 10)) → decimalIn (suc k) n ≡ decimalIn (suc j) n
+    cases : Dec (n < 10) → (10 ≤ n → decimal_in k (n / 10) ≡ decimal_in j (n / 10)) → decimal_in (suc k) n ≡ decimal_in (suc j) n
     cases (yes l) f = small-in k n l ∙ sym (small-in j n l)
     cases (no l) f = let b : 10 ≤ n = omega arith in rw (big-in k n b, big-in j n b, f b)
 
@@ -221,7 +221,7 @@ decimal-length-most =
     (λ n h e. omega (arith, decimal-length-big n h))
 
 pub value-decimal : (n : ℕ) → value (decimal n) ≡ n
-unfolding valueOn
+unfolding value_on
 value-decimal =
     decimal-ind (λ n. value (decimal n) ≡ n)
     (λ n h. one n h)
@@ -238,11 +238,11 @@ leading-decimal =
 
 -- ---- the text of an integer
 
-pub integer-text-negative : (z : ℤ) → lt_z z (pos 0) ≡ true → integerText z ≡ minus ∷ decimal (nat_abs z)
+pub integer-text-negative : (z : ℤ) → lt_z z (pos 0) ≡ true → integer_text z ≡ minus ∷ decimal (nat_abs z)
 integer-text-negative (pos n) t = let h : n < 0 = ltb-true n 0 t in absurd (omega arith)
 integer-text-negative (negsuc n) t = refl
 
-pub integer-text-positive : (z : ℤ) → lt_z z (pos 0) ≡ false → integerText z ≡ decimal (nat_abs z)
+pub integer-text-positive : (z : ℤ) → lt_z z (pos 0) ≡ false → integer_text z ≡ decimal (nat_abs z)
 integer-text-positive (pos n) t = refl
 integer-text-positive (negsuc n) t = never cc
 
@@ -260,7 +260,7 @@ printed-digits negative k n rest f e =
     (ended-got negative k (decimal n) (λ q. omega (arith, decimal-some n)) (rw v (in-true _ f)) ∙ rw v)
 
 pub read-of-printed : (z : ℤ) (rest : List ℕ) → SFits w64 z → leading rest ≡ []
-    → number (integerText z ++ rest) ≡ got z (length (integerText z))
+    → number (integer_text z ++ rest) ≡ got z (length (integer_text z))
 read-of-printed (pos n) rest f e =
     let some : 0 < length (leading (decimal n ++ rest)) = rw (read-of-counted n rest e) (decimal-some n) in
     let h = leading-head (decimal n ++ rest) some in

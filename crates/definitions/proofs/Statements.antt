@@ -8,20 +8,20 @@ use native.Mathlib.Omega.{arith}
 use lib.Dec.{leb, eqb}
 use lib.ListN.{length, drop, length-drop}
 use lib.IntN.{ℤ, pos}
-use Rattle.definitions.specs.Refusal.{Checked, refuse, accept, fault, faultOf}
-use Rattle.definitions.specs.Bytes.{minText, is_at, blanks, lineEnding, untilEnding, begins, classOf, minus, semicolon, less}
-use Rattle.definitions.specs.Bytes.{equals, greater, letterX, tilde}
+use Rattle.definitions.specs.Refusal.{Checked, refuse, accept, fault, fault_of}
+use Rattle.definitions.specs.Bytes.{min_text, is_at, blanks, line_ending, until_ending, begins, class_of, minus, semicolon, less}
+use Rattle.definitions.specs.Bytes.{equals, greater, letter_x, tilde}
 use Rattle.definitions.specs.Reader.{Got, none, got, Reader, more, chain, done, fail}
 use Rattle.definitions.specs.Number.{leading, value, number}
 use Rattle.definitions.specs.Literal.{index}
 use Rattle.definitions.specs.Walk.{stop, item, Walked, broken, items, all, anywhere}
 use Rattle.definitions.specs.Lists.{starts_with}
-use Rattle.definitions.specs.Limits.{weightLimit, inI64}
-use Rattle.definitions.specs.Row.{Term, Kind, Row, row_of, Line, comment, row, termsOf, sizes}
-use Rattle.definitions.specs.Text.{gap, someBlanks, gap1, codeBy, digits, variable, literal, afterWeight, weighted}
-use Rattle.definitions.specs.Text.{beginsTerm, asStep, termStep, asGot, sum, operator, closing, ending, Comparison}
-use Rattle.definitions.specs.Text.{comparison, finished, constraint, minWord, minBlanks, goal, remark, asLine, statementBy}
-use Rattle.definitions.specs.Text.{afterBlanks, statementAt, statement, spaceAfter}
+use Rattle.definitions.specs.Limits.{weight_limit, in_i64}
+use Rattle.definitions.specs.Row.{Term, Kind, Row, row_of, Line, comment, row, terms_of, sizes}
+use Rattle.definitions.specs.Text.{gap, some_blanks, gap1, code_by, digits, variable, literal, after_weight, weighted}
+use Rattle.definitions.specs.Text.{begins_term, as_step, term_step, as_got, sum, operator, closing, ending, Comparison}
+use Rattle.definitions.specs.Text.{comparison, finished, constraint, min_word, min_blanks, goal, remark, as_line, statement_by}
+use Rattle.definitions.specs.Text.{after_blanks, statement_at, statement, space_after}
 use Rattle.definitions.specs.declared.Options.{Options}
 use Rattle.definitions.specs.declared.Beginning.{Beginning}
 use Rattle.definitions.specs.declared.Beginning.TheVariants.{Comment, Objective, Constraint, Nothing}
@@ -51,7 +51,7 @@ within-gap1 : Within gap1
 unfolding gap1
 within-gap1 = most-within gap1 (λ s. by s (blanks s) (blanks-within s))
   where
-    by : (s : List ℕ) (k : ℕ) → k ≤ length s → Most s (someBlanks k)
+    by : (s : List ℕ) (k : ℕ) → k ≤ length s → Most s (some_blanks k)
     by s zero h = tt
     by s (suc k) h = h
 
@@ -62,11 +62,11 @@ module _ (o : Options) where
   most-digits : (negative : Bool) (s : List ℕ) → Most s (digits o negative s)
   unfolding digits
   most-digits negative s =
-      cond-holds (eqb (length (leading s)) 0) (none (fault 4)) (codeBy negative (length (leading s)) (index o.first (value (leading s))))
+      cond-holds (eqb (length (leading s)) 0) (none (fault 4)) (code_by negative (length (leading s)) (index o.first (value (leading s))))
       (Most s) tt
       (by (index o.first (value (leading s))))
     where
-      by : (c : Checked ℕ) → Most s (codeBy negative (length (leading s)) c)
+      by : (c : Checked ℕ) → Most s (code_by negative (length (leading s)) c)
       by (refuse e) = tt
       by (accept v) = leading_length s
 
@@ -74,7 +74,7 @@ module _ (o : Options) where
   unfolding variable
   most-variable negative [] = tt
   most-variable negative (b ∷ s) =
-      cond-holds (eqb b letterX) (more 1 (digits o negative s)) (none (fault 4)) (Most (b ∷ s))
+      cond-holds (eqb b letter_x) (more 1 (digits o negative s)) (none (fault 4)) (Most (b ∷ s))
       (most-more b s (digits o negative s) (most-digits negative s)) tt
 
   most-literal : (s : List ℕ) → Most s (literal o s)
@@ -87,38 +87,38 @@ module _ (o : Options) where
   pub within-literal : Within (literal o)
   within-literal = most-within (literal o) most-literal
 
-  pub within-after-weight : (w : ℤ) → Within (afterWeight o w)
-  unfolding afterWeight
+  pub within-after-weight : (w : ℤ) → Within (after_weight o w)
+  unfolding after_weight
   within-after-weight w =
       within-chain gap1 _ within-gap1
       (λ _. within-chain (literal o) _ within-literal (λ c. within-chain gap _ within-gap (λ _. within-done _)))
 
   pub within-weighted : Within (weighted o)
   unfolding weighted
-  within-weighted = within-chain number (λ w. afterWeight o w) within-number within-after-weight
+  within-weighted = within-chain number (λ w. after_weight o w) within-number within-after-weight
 
   -- a term has at least the byte of its number
   pub weighted-least : (s : List ℕ) (t : Term) (n : ℕ) → weighted o s ≡ got t n → 0 < n
   unfolding weighted
   weighted-least s t n e =
-      let l = chain-linked number (λ w. afterWeight o w) s t n e in
+      let l = chain-linked number (λ w. after_weight o w) s t n e in
       omega (arith, (number-within s l.here).0, l.total)
 
 -- ---- a sum: a walk over terms
 module _ (o : Options) where
-  as-step-item : {A : Type 0} (g : Got A) (a : A) (n : ℕ) → asStep g ≡ item a n → g ≡ got a n
+  as-step-item : {A : Type 0} (g : Got A) (a : A) (n : ℕ) → as_step g ≡ item a n → g ≡ got a n
   as-step-item (none e) a n q = never cc
   as-step-item (got b m) a n q = let x : b ≡ a = cc in let y : m ≡ n = cc in cc
 
-  pub term-step-item : (s : List ℕ) (t : Term) (n : ℕ) → termStep o s ≡ item t n → weighted o s ≡ got t n
-  unfolding termStep
-  term-step-item s t n e = by (beginsTerm s) refl
+  pub term-step-item : (s : List ℕ) (t : Term) (n : ℕ) → term_step o s ≡ item t n → weighted o s ≡ got t n
+  unfolding term_step
+  term-step-item s t n e = by (begins_term s) refl
     where
-      by : (b : Bool) → beginsTerm s ≡ b → weighted o s ≡ got t n
-      by true q = as-step-item (weighted o s) t n (sym (rw (q, termStep)) ∙ e)
-      by false q = let c : stop ≡ item t n = sym (rw (q, termStep)) ∙ e in never cc
+      by : (b : Bool) → begins_term s ≡ b → weighted o s ≡ got t n
+      by true q = as-step-item (weighted o s) t n (sym (rw (q, term_step)) ∙ e)
+      by false q = let c : stop ≡ item t n = sym (rw (q, term_step)) ∙ e in never cc
 
-  pub term-moves : Moves (termStep o)
+  pub term-moves : Moves (term_step o)
   term-moves =
       record {
         none = nothing;
@@ -126,24 +126,24 @@ module _ (o : Options) where
         most = λ s t n e. (within-weighted o).most s t n (term-step-item s t n e);
       }
     where
-      nothing : termStep o [] ≡ stop
-      nothing = unfold termStep beginsTerm in refl
+      nothing : term_step o [] ≡ stop
+      nothing = unfold term_step begins_term in refl
 
   pub sum-within : (s : List ℕ) (ts : List Term) (n : ℕ) → sum o s ≡ got ts n → (n ≤ length s) × (length ts ≤ n)
   unfolding sum
-  sum-within s ts n e = by (all (termStep o) anywhere s) refl
+  sum-within s ts n e = by (all (term_step o) anywhere s) refl
     where
-      by : (w : Walked Term) → all (termStep o) anywhere s ≡ w → (n ≤ length s) × (length ts ≤ n)
-      by (broken r) q = let c : none (faultOf r) ≡ got ts n = ap asGot (sym q) ∙ e in never cc
+      by : (w : Walked Term) → all (term_step o) anywhere s ≡ w → (n ≤ length s) × (length ts ≤ n)
+      by (broken r) q = let c : none (fault_of r) ≡ got ts n = ap as_got (sym q) ∙ e in never cc
       by (items xs m) q =
-          let c : got xs m ≡ got ts n = ap asGot (sym q) ∙ e in
+          let c : got xs m ≡ got ts n = ap as_got (sym q) ∙ e in
           let x : xs ≡ ts = cc in
           let y : m ≡ n = cc in
-          let f : all (termStep o) anywhere s ≡ items ts n = cc in (
-            (all-ended (termStep o) anywhere (λ _. Unit {0}) (λ _ _ _ _ _. tt) s ts n f).0,
+          let f : all (term_step o) anywhere s ≡ items ts n = cc in (
+            (all-ended (term_step o) anywhere (λ _. Unit {0}) (λ _ _ _ _ _. tt) s ts n f).0,
             omega (
               arith,
-              all-summed (termStep o) anywhere term-moves (λ _. 1) (λ s' t k at i. term-moves.least s' t k i) s ts n f,
+              all-summed (term_step o) anywhere term-moves (λ _. 1) (λ s' t k at i. term-moves.least s' t k i) s ts n f,
               total-one ts,
             ),
           )
@@ -173,9 +173,9 @@ least-operator (b ∷ s) =
     (cond-holds (eqb b greater) _ _ Least (cond-holds (is_at equals s) (got _ 2) (got _ 1) Least (omega arith) (omega arith))
     (cond-holds (eqb b equals) _ _ Least (omega arith) tt))
 
-least-min-word : (s : List ℕ) → Least (minWord s)
-unfolding minWord
-least-min-word s = cond-holds (starts_with minText s) (got 0 (length minText)) (none (fault 2)) Least (omega arith) tt
+least-min-word : (s : List ℕ) → Least (min_word s)
+unfolding min_word
+least-min-word s = cond-holds (starts_with min_text s) (got 0 (length min_text)) (none (fault 2)) Least (omega arith) tt
 
 pub within-operator : Within operator
 within-operator = most-within operator most-operator
@@ -186,7 +186,7 @@ most-closing [] = omega arith
 most-closing (b ∷ s) =
     cond-holds (eqb b semicolon) _ _ (Most (b ∷ s))
     (omega (arith, blanks-within s, ending-within (drop (blanks s) s), length-drop (blanks s) s))
-    (by (lineEnding (b ∷ s)) (ending-within (b ∷ s)))
+    (by (line_ending (b ∷ s)) (ending-within (b ∷ s)))
   where
     by : (k : ℕ) → k ≤ length (b ∷ s) → Most {A = Bool} (b ∷ s) (elim k [ zero ↦ none (fault 7) | suc j ↦ got false (suc j) ])
     by zero h = tt
@@ -210,9 +210,9 @@ within-comparison =
 pub finished-got : (o : Options) (c : Bool) (k : Kind) (b : ℤ) (ts : List Term) (s : List ℕ) (r : Row) (n : ℕ)
     → finished o c k b ts s ≡ got r n → (r ≡ row_of k b ts) × (n ≡ 0)
 unfolding finished
-finished-got o c k b ts s r n e = by (leb (sizes ts) weightLimit && inI64 b) refl
+finished-got o c k b ts s r n e = by (leb (sizes ts) weight_limit && in_i64 b) refl
   where
-    by : (x : Bool) → (leb (sizes ts) weightLimit && inI64 b) ≡ x → (r ≡ row_of k b ts) × (n ≡ 0)
+    by : (x : Bool) → (leb (sizes ts) weight_limit && in_i64 b) ≡ x → (r ≡ row_of k b ts) × (n ≡ 0)
     by true q = let c : got (row_of k b ts) 0 ≡ got r n = sym (rw q) ∙ e in (cc, cc)
     by false q = let c : none (fault 8) ≡ got r n = sym (rw q) ∙ e in never cc
 
@@ -226,17 +226,17 @@ starts-within (p ∷ w) (b ∷ s) e = by (eqb b p) e (λ q. starts-within w s q)
     by true q f = omega (arith, f q)
     by false q f = never cc
 
-most-min-word : (s : List ℕ) → Most s (minWord s)
-unfolding minWord
-most-min-word s = by (starts_with minText s) refl
+most-min-word : (s : List ℕ) → Most s (min_word s)
+unfolding min_word
+most-min-word s = by (starts_with min_text s) refl
   where
-    by : (x : Bool) → starts_with minText s ≡ x → Most {A = ℕ} s (cond (starts_with minText s) (got 0 (length minText)) (none (fault 2)))
-    by true q = rw q (starts-within minText s q)
+    by : (x : Bool) → starts_with min_text s ≡ x → Most {A = ℕ} s (cond (starts_with min_text s) (got 0 (length min_text)) (none (fault 2)))
+    by true q = rw q (starts-within min_text s q)
     by false q = rw q tt
 
-pub within-min-blanks : Within minBlanks
-unfolding minBlanks
-within-min-blanks = within-chain minWord (λ _. gap) (most-within minWord most-min-word) (λ _. within-gap)
+pub within-min-blanks : Within min_blanks
+unfolding min_blanks
+within-min-blanks = within-chain min_word (λ _. gap) (most-within min_word most-min-word) (λ _. within-gap)
 
 comparison-least : (s : List ℕ) (c : Comparison) (n : ℕ) → comparison s ≡ got c n → 0 < n
 unfolding comparison
@@ -245,10 +245,10 @@ comparison-least s c n e =
     let h : 0 < l.taken = rw l.here at (least-operator s) in
     omega (arith, l.total)
 
-min-blanks-least : (s : List ℕ) (k n : ℕ) → minBlanks s ≡ got k n → 0 < n
-unfolding minBlanks
+min-blanks-least : (s : List ℕ) (k n : ℕ) → min_blanks s ≡ got k n → 0 < n
+unfolding min_blanks
 min-blanks-least s k n e =
-    let l = chain-linked minWord _ s k n e in
+    let l = chain-linked min_word _ s k n e in
     let h : 0 < l.taken = rw l.here at (least-min-word s) in
     omega (arith, l.total)
 
@@ -276,7 +276,7 @@ module _ (o : Options) (s : List ℕ) (r : Row) (n : ℕ) where
   pub goal-taken : goal o s ≡ got r n → RowTaken s r n
   unfolding goal
   goal-taken e =
-      let i = chain-linked minBlanks _ s r n e in
+      let i = chain-linked min_blanks _ s r n e in
       let l = chain-linked (sum o) _ (drop i.taken s) r i.behind i.there in
       let m = chain-linked ending _ (drop l.taken (drop i.taken s)) r l.behind l.there in
       let z = finished-got o _ _ _ l.given (drop m.taken (drop l.taken (drop i.taken s))) r m.behind m.there in
@@ -290,13 +290,13 @@ module _ (o : Options) (s : List ℕ) (r : Row) (n : ℕ) where
       }
 
 -- ---- comments
-pub remark-taken : (s : List ℕ) (l : Line) (n : ℕ) → remark s ≡ got l n → (0 < n) × (n ≤ length s) × (termsOf l ≡ [])
+pub remark-taken : (s : List ℕ) (l : Line) (n : ℕ) → remark s ≡ got l n → (0 < n) × (n ≤ length s) × (terms_of l ≡ [])
 unfolding remark
 remark-taken [] l n e = never cc
 remark-taken (b ∷ s) l n e =
-    let m : 1 + untilEnding s + lineEnding (drop (untilEnding s) s) ≡ n = cc in
-    let c : comment (1 + spaceAfter s) (untilEnding s - spaceAfter s) (pos 0) ≡ l = cc in
-    (omega arith, omega (arith, until-within s, ending-within (drop (untilEnding s) s), length-drop (untilEnding s) s), sym (ap termsOf c))
+    let m : 1 + until_ending s + line_ending (drop (until_ending s) s) ≡ n = cc in
+    let c : comment (1 + space_after s) (until_ending s - space_after s) (pos 0) ≡ l = cc in
+    (omega arith, omega (arith, until-within s, ending-within (drop (until_ending s) s), length-drop (until_ending s) s), sym (ap terms_of c))
 
 -- ---- statements
 module _ (o : Options) where
@@ -304,13 +304,13 @@ module _ (o : Options) where
   pub record LineTaken (s : List ℕ) (l : Line) (n : ℕ) : Type 0 where
     pub least : 0 < n
     pub within : n ≤ length s
-    pub terms : length (termsOf l) ≤ n
+    pub terms : length (terms_of l) ≤ n
 
   row-taken : (p : Reader Row) (s : List ℕ) (l : Line) (n : ℕ) → ((r : Row) (m : ℕ) → p s ≡ got r m → RowTaken s r m)
-      → chain p asLine s ≡ got l n → LineTaken s l n
+      → chain p as_line s ≡ got l n → LineTaken s l n
   unfolding done
   row-taken p s l n f e =
-      let k = chain-linked p asLine s l n e in
+      let k = chain-linked p as_line s l n e in
       let q = k.total in
       let t = f k.given k.taken k.here in
       let d : got (row k.given) 0 ≡ got l k.behind = k.there in
@@ -322,7 +322,7 @@ module _ (o : Options) where
         terms = rw (← c) (omega arith);
       }
 
-  statement-by-taken : (b : Beginning) (s : List ℕ) (l : Line) (n : ℕ) → statementBy b o s ≡ got l n → LineTaken s l n
+  statement-by-taken : (b : Beginning) (s : List ℕ) (l : Line) (n : ℕ) → statement_by b o s ≡ got l n → LineTaken s l n
   unfolding fail
   statement-by-taken Comment s l n e =
       let t = remark-taken s l n e in
@@ -332,8 +332,8 @@ module _ (o : Options) where
   statement-by-taken Nothing s l n e = never cc
 
   after-blanks-item : (k : ℕ) (g : Got Line) (s : List ℕ) (l : Line) (n : ℕ) → ((l' : Line) (m : ℕ) → g ≡ got l' m → LineTaken s l' m)
-      → afterBlanks k g ≡ item l n
-      → (0 < n) × (n ≤ k + length s) × (length (termsOf l) ≤ n)
+      → after_blanks k g ≡ item l n
+      → (0 < n) × (n ≤ k + length s) × (length (terms_of l) ≤ n)
   after-blanks-item k (none x) s l n f e = never cc
   after-blanks-item k (got (comment a b c) m) s l n f e =
       let t = f (comment a b c) m refl in
@@ -346,12 +346,12 @@ module _ (o : Options) where
       let y : k + m ≡ n = cc in
       (omega arith, omega arith, rw (← x) (omega arith))
 
-  statement-at-item : (k : ℕ) (s : List ℕ) (l : Line) (n : ℕ) → statementAt o k s ≡ item l n
-      → (0 < n) × (n ≤ k + length s) × (length (termsOf l) ≤ n)
-  unfolding statementAt
+  statement-at-item : (k : ℕ) (s : List ℕ) (l : Line) (n : ℕ) → statement_at o k s ≡ item l n
+      → (0 < n) × (n ≤ k + length s) × (length (terms_of l) ≤ n)
+  unfolding statement_at
   statement-at-item k [] l n e = never cc
   statement-at-item k (b ∷ s) l n e =
-      after-blanks-item k (statementBy (begins (classOf b)) o (b ∷ s)) (b ∷ s) l n (statement-by-taken (begins (classOf b)) (b ∷ s)) e
+      after-blanks-item k (statement_by (begins (class_of b)) o (b ∷ s)) (b ∷ s) l n (statement-by-taken (begins (class_of b)) (b ∷ s)) e
 
   pub statement-taken : (s : List ℕ) (l : Line) (n : ℕ) → statement o s ≡ item l n → LineTaken s l n
   unfolding statement
@@ -368,4 +368,4 @@ module _ (o : Options) where
       }
     where
       nothing : statement o [] ≡ stop
-      nothing = unfold statement statementAt blanks in refl
+      nothing = unfold statement statement_at blanks in refl

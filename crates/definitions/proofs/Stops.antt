@@ -6,13 +6,13 @@ use mathlib.Core.List.{List, [], ◌∷◌, ◌++◌}
 use native.Mathlib.Omega.{arith}
 use lib.ListN.{length, take, drop, length-drop, take-append-drop}
 use lib.Seq.{take_all, length-take-le}
-use Rattle.definitions.specs.Refusal.{Refusal, faultAt}
+use Rattle.definitions.specs.Refusal.{Refusal, fault_at}
 use Rattle.definitions.specs.Lists.{AllOf}
-use Rattle.definitions.specs.Bytes.{isBlank, blanks, begins, classOf}
+use Rattle.definitions.specs.Bytes.{is_blank, blanks, begins, class_of}
 use Rattle.definitions.specs.Reader.{Got, none, got}
 use Rattle.definitions.specs.Walk.{stop, bad}
 use Rattle.definitions.specs.Row.{Line, comment, row}
-use Rattle.definitions.specs.Text.{statementBy, afterBlanks, statementAt, statement}
+use Rattle.definitions.specs.Text.{statement_by, after_blanks, statement_at, statement}
 use Rattle.definitions.specs.Pieces.{Blank}
 use Rattle.definitions.specs.declared.Options.{Options}
 use Rattle.definitions.proofs.Texts.{blanks-within}
@@ -21,32 +21,32 @@ use Rattle.definitions.proofs.Truths.{never}
 pub all-blank : (s : List ℕ) → AllOf Blank (take (blanks s) s)
 unfolding blanks
 all-blank [] = tt
-all-blank (b ∷ s) = by (isBlank b) refl (all-blank s)
+all-blank (b ∷ s) = by (is_blank b) refl (all-blank s)
   where
-    by : (t : Bool) → isBlank b ≡ t → AllOf Blank (take (blanks s) s) → AllOf Blank (take (blanks (b ∷ s)) (b ∷ s))
+    by : (t : Bool) → is_blank b ≡ t → AllOf Blank (take (blanks s) s) → AllOf Blank (take (blanks (b ∷ s)) (b ∷ s))
     by true e h = rw (e, blanks) (e, h)
     by false e h = rw (e, blanks) tt
 
-pub after-is-no-stop : (k : ℕ) (g : Got Line) → afterBlanks k g ≡ stop → ⊥
+pub after-is-no-stop : (k : ℕ) (g : Got Line) → after_blanks k g ≡ stop → ⊥
 after-is-no-stop k (none e) q = never cc
 after-is-no-stop k (got (comment f n b) m) q = never cc
 after-is-no-stop k (got (row r) m) q = never cc
 
-after-is-bad : (k : ℕ) (g : Got Line) (r : Refusal) → afterBlanks k g ≡ bad r → r.place ≡ k
-after-is-bad k (none e) r q = let p : faultAt k e ≡ r = cc in sym (ap (λ (x : Refusal). x.place) p)
+after-is-bad : (k : ℕ) (g : Got Line) (r : Refusal) → after_blanks k g ≡ bad r → r.place ≡ k
+after-is-bad k (none e) r q = let p : fault_at k e ≡ r = cc in sym (ap (λ (x : Refusal). x.place) p)
 after-is-bad k (got (comment f i b) m) r q = never cc
 after-is-bad k (got (row x) m) r q = never cc
 
 module _ (o : Options) where
-  nothing_left : (k : ℕ) (s : List ℕ) → statementAt o k s ≡ stop → length s ≡ 0
-  unfolding statementAt
+  nothing_left : (k : ℕ) (s : List ℕ) → statement_at o k s ≡ stop → length s ≡ 0
+  unfolding statement_at
   nothing_left k [] e = refl
-  nothing_left k (b ∷ s) e = absurd (after-is-no-stop k (statementBy (begins (classOf b)) o (b ∷ s)) e)
+  nothing_left k (b ∷ s) e = absurd (after-is-no-stop k (statement_by (begins (class_of b)) o (b ∷ s)) e)
 
-  something-left : (k : ℕ) (s : List ℕ) (r : Refusal) → statementAt o k s ≡ bad r → (0 < length s) × (r.place ≡ k)
-  unfolding statementAt
+  something-left : (k : ℕ) (s : List ℕ) (r : Refusal) → statement_at o k s ≡ bad r → (0 < length s) × (r.place ≡ k)
+  unfolding statement_at
   something-left k [] r e = never cc
-  something-left k (b ∷ s) r e = (omega arith, after-is-bad k (statementBy (begins (classOf b)) o (b ∷ s)) r e)
+  something-left k (b ∷ s) r e = (omega arith, after-is-bad k (statement_by (begins (class_of b)) o (b ∷ s)) r e)
 
   -- where nothing is found, there are blanks alone
   pub stop-is-blank : (s : List ℕ) → statement o s ≡ stop → AllOf Blank s

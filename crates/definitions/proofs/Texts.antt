@@ -9,8 +9,8 @@ use lib.Dec.{eqb}
 use lib.ListN.{length}
 use Rattle.definitions.specs.declared.Beginning.{Beginning}
 use Rattle.definitions.specs.declared.Beginning.TheVariants.{Comment, Objective, Constraint, Nothing}
-use Rattle.definitions.specs.Bytes.{lf, cr, isDigit, isSign, isBlank, classOf, begins, is_at}
-use Rattle.definitions.specs.Bytes.{blanks, lineEnding, untilEnding}
+use Rattle.definitions.specs.Bytes.{lf, cr, is_digit, is_sign, is_blank, class_of, begins, is_at}
+use Rattle.definitions.specs.Bytes.{blanks, line_ending, until_ending}
 use Rattle.definitions.proofs.Truths.{never, either, cond_same, cond-pushed}
 
 -- ---- within the text
@@ -22,7 +22,7 @@ one_more false n m h = omega arith
 pub blanks-within : (s : List ℕ) → blanks s ≤ length s
 unfolding blanks
 blanks-within [] = omega arith
-blanks-within (b ∷ s) = one_more (isBlank b) (blanks s) (length s) (blanks-within s)
+blanks-within (b ∷ s) = one_more (is_blank b) (blanks s) (length s) (blanks-within s)
 
 -- an LF, or a CR and an LF behind it
 one-or-two : (t u v : Bool) (m : ℕ) → (v ≡ true → 1 ≤ m) → cond t 1 (cond (u && v) 2 0) ≤ suc m
@@ -36,8 +36,8 @@ unfolding is_at
 at-within b [] e = never cc
 at-within b (c ∷ s) e = omega arith
 
-pub ending-within : (s : List ℕ) → lineEnding s ≤ length s
-unfolding lineEnding
+pub ending-within : (s : List ℕ) → line_ending s ≤ length s
+unfolding line_ending
 ending-within [] = omega arith
 ending-within (b ∷ s) = one-or-two (eqb b lf) (eqb b cr) (is_at lf s) (length s) (at-within lf s)
 
@@ -45,17 +45,17 @@ until-more : (k n m : ℕ) → n ≤ m → elim k [ zero ↦ suc n | suc j ↦ z
 until-more zero n m h = omega arith
 until-more (suc k) n m h = omega arith
 
-pub until-within : (s : List ℕ) → untilEnding s ≤ length s
-unfolding untilEnding
+pub until-within : (s : List ℕ) → until_ending s ≤ length s
+unfolding until_ending
 until-within [] = omega arith
-until-within (b ∷ s) = until-more (lineEnding (b ∷ s)) (untilEnding s) (length s) (until-within s)
+until-within (b ∷ s) = until-more (line_ending (b ∷ s)) (until_ending s) (length s) (until-within s)
 
 -- ---- what begins a constraint
 
 module _ (b : ℕ) where
-  pub digit-or-sign-begins : isDigit b || isSign b ≡ true → begins (classOf b) ≡ Constraint
-  unfolding classOf
-  digit-or-sign-begins e = ⊎_elim (λ q. rw q) (λ q. rw q (simp (cond-pushed begins, cond_same))) (either (isDigit b) (isSign b) e)
+  pub digit-or-sign-begins : is_digit b || is_sign b ≡ true → begins (class_of b) ≡ Constraint
+  unfolding class_of
+  digit-or-sign-begins e = ⊎_elim (λ q. rw q) (λ q. rw q (simp (cond-pushed begins, cond_same))) (either (is_digit b) (is_sign b) e)
 
 -- what a byte begins as a number, so that it is computed whether two are one
 abbrev pub order : Beginning → ℕ
@@ -64,8 +64,8 @@ order Objective = 1
 order Constraint = 2
 order Nothing = 3
 
-abbrev pub sameBeginning : Beginning → Beginning → Bool
-sameBeginning p q = eqb (order p) (order q)
+abbrev pub same_beginning : Beginning → Beginning → Bool
+same_beginning p q = eqb (order p) (order q)
 
 cond-or : (t u : Bool) → cond t true (cond u true false) ≡ t || u
 cond-or true u = refl
@@ -73,7 +73,7 @@ cond-or false true = refl
 cond-or false false = refl
 
 -- where it is known what b begins, `rw` computes the right side
-pub digit-or-sign-is-constraint : (b : ℕ) → isDigit b || isSign b ≡ sameBeginning (begins (classOf b)) Constraint
-unfolding classOf
+pub digit-or-sign-is-constraint : (b : ℕ) → is_digit b || is_sign b ≡ same_beginning (begins (class_of b)) Constraint
+unfolding class_of
 digit-or-sign-is-constraint b =
-    sym (simp (cond-pushed begins, cond-pushed order, cond-pushed (λ (n : ℕ). eqb n 2), cond_same) (cond-or (isDigit b) (isSign b)))
+    sym (simp (cond-pushed begins, cond-pushed order, cond-pushed (λ (n : ℕ). eqb n 2), cond_same) (cond-or (is_digit b) (is_sign b)))

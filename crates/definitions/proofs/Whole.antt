@@ -7,7 +7,7 @@ use native.Mathlib.Omega.{arith}
 use native.Mathlib.Decide.{dec_lt, dec_le}
 use borrow.Author.Tests.{lt-ltb, le-ltb, ltb-true, ltb-false, le-leb, lt-leb, leb-true}
 use lib.Dec.{leb}
-use Rattle.definitions.specs.Limits.{inI64}
+use Rattle.definitions.specs.Limits.{in_i64}
 use lib.IntN.{ℤ, pos, negsuc, neg_ℤ, nat_abs, sub_ℕ, ◌+ℤ◌, ◌-ℤ◌, ◌*ℤ◌}
 use native.Mathlib.Nat.{zero-mul}
 use lib.Signed.{lt_z, le_z}
@@ -121,23 +121,23 @@ module _ where
 
 -- whether 64 signed bits hold z
 module _ where
-  pub in-true : (z : ℤ) → SFits w64 z → inI64 z ≡ true
-  unfolding inI64
+  pub in-true : (z : ℤ) → SFits w64 z → in_i64 z ≡ true
+  unfolding in_i64
   in-true (pos n) f = le-leb n 9223372036854775807 (omega (arith, f.sfits))
   in-true (negsuc n) f = rw (le-leb n 9223372036854775807 (omega (arith, f.sfits)))
 
-  pub true-in : (z : ℤ) → inI64 z ≡ true → SFits w64 z
-  unfolding inI64
+  pub true-in : (z : ℤ) → in_i64 z ≡ true → SFits w64 z
+  unfolding in_i64
   true-in (pos n) e = record { sfits = omega (arith, leb-true n 9223372036854775807 e) }
   true-in (negsuc n) e = record { sfits = omega (arith, leb-true n 9223372036854775807 (both (leb n 9223372036854775807) true e).0) }
 
-  pub over-up : (z : ℤ) → 2 ^ 63 ≤ up z → inI64 z ≡ false
-  unfolding up inI64
+  pub over-up : (z : ℤ) → 2 ^ 63 ≤ up z → in_i64 z ≡ false
+  unfolding up in_i64
   over-up (pos n) h = lt-leb n 9223372036854775807 (omega arith)
   over-up (negsuc n) h = absurd (omega arith)
 
-  pub over-dn : (z : ℤ) → 2 ^ 63 < dn z → inI64 z ≡ false
-  unfolding dn inI64
+  pub over-dn : (z : ℤ) → 2 ^ 63 < dn z → in_i64 z ≡ false
+  unfolding dn in_i64
   over-dn (pos n) h = absurd (omega arith)
   over-dn (negsuc n) h = rw (lt-leb n 9223372036854775807 (omega arith))
 

@@ -8,11 +8,11 @@ use mathlib.Core.List.{List, ◌++◌}
 use native.Mathlib.Omega.{arith}
 use lib.ListN.{length, length-append}
 use Rattle.definitions.specs.Lists.{AllOf}
-use Rattle.definitions.specs.Limits.{fileLimit}
+use Rattle.definitions.specs.Limits.{file_limit}
 use Rattle.definitions.specs.Refusal.{Refusal, refusal}
 use Rattle.definitions.specs.Walk.{bad, broken, items}
 use Rattle.definitions.specs.Row.{Line}
-use Rattle.definitions.specs.Text.{statement, inFile}
+use Rattle.definitions.specs.Text.{statement, in_file}
 use Rattle.definitions.specs.Table.{refused, accepted}
 use Rattle.definitions.specs.File.{statements, file}
 use Rattle.definitions.specs.Pieces.{together, Blank, Pieces}
@@ -29,7 +29,7 @@ pub record WholeFile (o : Options) (s : List ℕ) (ls : List Line) : Type 0 wher
   -- the file is the pieces and the tail
   pub whole : s ≡ together pieces ++ tail
   -- one piece for each line, in order: exactly the bytes that `statement` takes there
-  pub each : Pieces (statement o) inFile 0 pieces tail ls
+  pub each : Pieces (statement o) in_file 0 pieces tail ls
   -- the tail is blanks alone
   pub blank : AllOf Blank tail
 
@@ -41,7 +41,7 @@ pub record BrokenFile (o : Options) (s : List ℕ) (r : Refusal) : Type 0 where
   pub rest : List ℕ
   -- the file is the pieces of whole statements, blanks, and the rest that is refused
   pub whole : s ≡ together pieces ++ (gap ++ rest)
-  pub each : Pieces (statement o) inFile 0 pieces (gap ++ rest) lines
+  pub each : Pieces (statement o) in_file 0 pieces (gap ++ rest) lines
   pub blank : AllOf Blank gap
   -- the place is where that rest begins, and lies in the file
   pub place : r.place ≡ length (together pieces ++ gap)
@@ -53,8 +53,8 @@ pub record BrokenFile (o : Options) (s : List ℕ) (r : Refusal) : Type 0 where
 pub accepted-is-whole : (o : Options) (s : List ℕ) (ls : List Line) (n : ℕ) → statements o s ≡ items ls n → WholeFile o s ls
 unfolding statements
 accepted-is-whole o s ls n e =
-    let t = all-through (statement o) inFile (statement-moves o) s in
-    let q = ended-items (statement o) inFile (statement-moves o) ls n t.ended e in
+    let t = all-through (statement o) in_file (statement-moves o) s in
+    let q = ended-items (statement o) in_file (statement-moves o) ls n t.ended e in
     record {
       pieces = t.pieces;
       tail = t.rest;
@@ -70,8 +70,8 @@ named b e p = rw (e, p)
 pub refused-is-broken : (o : Options) (s : List ℕ) (r : Refusal) → statements o s ≡ broken r → BrokenFile o s r
 unfolding statements
 refused-is-broken o s r e =
-    let t = all-through (statement o) inFile (statement-moves o) s in
-    let q = ended-broken (statement o) inFile (statement-moves o) r t.ended e in
+    let t = all-through (statement o) in_file (statement-moves o) s in
+    let q = ended-broken (statement o) in_file (statement-moves o) r t.ended e in
     let b = bad-parted o t.rest q.behind q.answer in
     let number : q.behind.number ≡ r.number = ap (λ (x : Refusal). x.number) q.whole in
     let spot : 0 + length (together t.pieces) + q.behind.place ≡ r.place = ap (λ (x : Refusal). x.place) q.whole in
@@ -91,8 +91,8 @@ refused-is-broken o s r e =
 -- ---- the same of `file`, which has the limit on the length (1)
 
 module _ (o : Options) (s : List ℕ) where
-  pub file-is-whole : (ls : List Line) → file o s ≡ accepted ls → (length s ≤ fileLimit) × WholeFile o s ls
+  pub file-is-whole : (ls : List Line) → file o s ≡ accepted ls → (length s ≤ file_limit) × WholeFile o s ls
   file-is-whole ls e = let f = file-accepted o s ls e in (f.within, accepted-is-whole o s ls f.end f.found)
 
-  pub file-is-broken : (r : Refusal) → file o s ≡ refused r → ((fileLimit < length s) × (r ≡ refusal 1 0)) ⊎ BrokenFile o s r
+  pub file-is-broken : (r : Refusal) → file o s ≡ refused r → ((file_limit < length s) × (r ≡ refusal 1 0)) ⊎ BrokenFile o s r
   file-is-broken r e = ⊎_elim (λ long. inl long) (λ b. inr (refused-is-broken o s r b)) (file-refused o s r e)

@@ -7,10 +7,10 @@ use Rattle.definitions.specs.declared.Counted.TheVariants as counted
 use Rattle.definitions.specs.declared.Length.{Length}
 use Rattle.definitions.specs.declared.Length.TheVariants as length
 
-abbrev pub saidCounted : Counted → Outcome Totals
-saidCounted (counted.Refused r) = refused r
-saidCounted (counted.Table n) = accepted n
+abbrev pub said_counted : Counted → Outcome Totals
+said_counted (counted.Refused r) = refused r
+said_counted (counted.Table n) = accepted n
 
-abbrev pub saidLength : Length → Outcome ℕ
-saidLength (length.Refused r) = refused r
-saidLength (length.Is n) = accepted n
+abbrev pub said_length : Length → Outcome ℕ
+said_length (length.Refused r) = refused r
+said_length (length.Is n) = accepted n

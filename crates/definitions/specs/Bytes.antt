@@ -50,46 +50,46 @@ equals = 61
 abbrev pub greater : ℕ
 greater = 62
 
-abbrev pub letterM : ℕ
-letterM = 109
+abbrev pub letter_m : ℕ
+letter_m = 109
 
-abbrev pub letterX : ℕ
-letterX = 120
+abbrev pub letter_x : ℕ
+letter_x = 120
 
 abbrev pub tilde : ℕ
 tilde = 126
 
-abbrev pub minText : List ℕ
-minText = bytes "min:"
+abbrev pub min_text : List ℕ
+min_text = bytes "min:"
 
 -- `0` to `9`
-abbrev pub isDigit : ℕ → Bool
-isDigit b = leb 48 b && leb b 57
+abbrev pub is_digit : ℕ → Bool
+is_digit b = leb 48 b && leb b 57
 
-abbrev pub isSign : ℕ → Bool
-isSign b = eqb b plus || eqb b minus
+abbrev pub is_sign : ℕ → Bool
+is_sign b = eqb b plus || eqb b minus
 
 -- "'Blank' is space or tab"
-abbrev pub isBlank : ℕ → Bool
-isBlank b = eqb b space || eqb b tab
+abbrev pub is_blank : ℕ → Bool
+is_blank b = eqb b space || eqb b tab
 
 -- `<`, `=`, `>`
-abbrev pub isOperator : ℕ → Bool
-isOperator b = leb less b && leb b greater
+abbrev pub is_operator : ℕ → Bool
+is_operator b = leb less b && leb b greater
 
-unfoldable pub classOf : ℕ → Class
-classOf b =
-    cond (isDigit b) Digit
-    (cond (isSign b) Sign
-    (cond (isBlank b) Blank
+unfoldable pub class_of : ℕ → Class
+class_of b =
+    cond (is_digit b) Digit
+    (cond (is_sign b) Sign
+    (cond (is_blank b) Blank
     (cond (eqb b cr) Cr
     (cond (eqb b lf) Lf
     (cond (eqb b semicolon) Semicolon
     (cond (eqb b star) Star
     (cond (eqb b tilde) Tilde
-    (cond (eqb b letterX) LetterX
-    (cond (eqb b letterM) LetterM
-    (cond (isOperator b) Operator Other))))))))))
+    (cond (eqb b letter_x) LetterX
+    (cond (eqb b letter_m) LetterM
+    (cond (is_operator b) Operator Other))))))))))
 
 -- "`*`: comment", "`min:` ...: objective", "digit, `+`, `-`: constraint"; "a statement starts with none of its
 -- beginnings": refusal 2
@@ -115,14 +115,14 @@ is_at b (c ∷ s) = eqb c b
 -- how many blanks stand at the front
 unfoldable pub blanks : List ℕ → ℕ
 blanks [] = zero
-blanks (b ∷ s) = elim (isBlank b) [ true ↦ suc (blanks s) | false ↦ zero ]
+blanks (b ∷ s) = elim (is_blank b) [ true ↦ suc (blanks s) | false ↦ zero ]
 
 -- "a line ending is LF or CR LF": how many bytes of one stand at the front, 0 where none does
-unfoldable pub lineEnding : List ℕ → ℕ
-lineEnding [] = 0
-lineEnding (b ∷ s) = cond (eqb b lf) 1 (cond (eqb b cr && is_at lf s) 2 0)
+unfoldable pub line_ending : List ℕ → ℕ
+line_ending [] = 0
+line_ending (b ∷ s) = cond (eqb b lf) 1 (cond (eqb b cr && is_at lf s) 2 0)
 
 -- "to the line ending or file end, any bytes": how many bytes stand before it
-unfoldable pub untilEnding : List ℕ → ℕ
-untilEnding [] = zero
-untilEnding (b ∷ s) = elim (lineEnding (b ∷ s)) [ zero ↦ suc (untilEnding s) | suc k ↦ zero ]
+unfoldable pub until_ending : List ℕ → ℕ
+until_ending [] = zero
+until_ending (b ∷ s) = elim (line_ending (b ∷ s)) [ zero ↦ suc (until_ending s) | suc k ↦ zero ]

@@ -5,54 +5,54 @@ use Rattle.std.specs.Prelude.{ℕ, cond, List, [], ◌∷◌, ◌++◌, length, 
 use Rattle.definitions.specs.Lists.{joined}
 use Rattle.definitions.specs.Refusal.{Refusal, Checked, refuse, accept}
 use Rattle.definitions.specs.Bytes.{bytes, tab, lf}
-use Rattle.definitions.specs.Number.{decimal, integerText}
+use Rattle.definitions.specs.Number.{decimal, integer_text}
 use Rattle.definitions.specs.Row.{Term, Kind, at_least, at_most, equal, objective, Line, comment, row}
-use Rattle.definitions.specs.Table.{Table, Outcome, refused, accepted, allTerms, Entry, entries, and_then, rowByRow, lineIn}
-use Rattle.definitions.specs.Write.{literalText, numbered, fittedText}
+use Rattle.definitions.specs.Table.{Table, Outcome, refused, accepted, all_terms, Entry, entries, and_then, row_by_row, line_in}
+use Rattle.definitions.specs.Write.{literal_text, numbered, fitted_text}
 
 -- a field behind another
 abbrev pub field : List ℕ → List ℕ
 field s = tab ∷ s
 
-abbrev pub kindWord : Kind → List ℕ
-kindWord at_least = bytes "ge"
-kindWord at_most = bytes "le"
-kindWord equal = bytes "eq"
-kindWord objective = bytes "min"
+abbrev pub kind_word : Kind → List ℕ
+kind_word at_least = bytes "ge"
+kind_word at_most = bytes "le"
+kind_word equal = bytes "eq"
+kind_word objective = bytes "min"
 
-unfoldable pub termFields : ℕ → Term → List ℕ
-termFields first t = field (integerText t.weight) ++ field (literalText first t.code)
+unfoldable pub term_fields : ℕ → Term → List ℕ
+term_fields first t = field (integer_text t.weight) ++ field (literal_text first t.code)
 
-unfoldable pub houseLine : ℕ → Line → List ℕ
-houseLine first (comment f n b) = bytes "c" ++ (field (decimal n) ++ (lf ∷ []))
-houseLine first (row r) = kindWord r.kind ++ (field (integerText r.bound) ++ (joined (termFields first) r.terms ++ (lf ∷ [])))
+unfoldable pub house_line : ℕ → Line → List ℕ
+house_line first (comment f n b) = bytes "c" ++ (field (decimal n) ++ (lf ∷ []))
+house_line first (row r) = kind_word r.kind ++ (field (integer_text r.bound) ++ (joined (term_fields first) r.terms ++ (lf ∷ [])))
 
-unfoldable pub headLine : ℕ → List Line → List ℕ
-headLine first ls =
-    bytes "opb" ++ (field (decimal (length ls)) ++ (field (decimal (length (allTerms ls))) ++ (field (decimal first) ++ (lf ∷ []))))
+unfoldable pub head_line : ℕ → List Line → List ℕ
+head_line first ls =
+    bytes "opb" ++ (field (decimal (length ls)) ++ (field (decimal (length (all_terms ls))) ++ (field (decimal first) ++ (lf ∷ []))))
 
-unfoldable pub refusedLine : Refusal → List ℕ
-refusedLine r = bytes "refused" ++ (field (decimal r.number) ++ (field (decimal r.place) ++ (lf ∷ [])))
+unfoldable pub refused_line : Refusal → List ℕ
+refused_line r = bytes "refused" ++ (field (decimal r.number) ++ (field (decimal r.place) ++ (lf ∷ [])))
 
 unfoldable pub listing : ℕ → Outcome (List Line) → List ℕ
-listing first (refused r) = refusedLine r
-listing first (accepted ls) = headLine first ls ++ joined (houseLine first) ls
+listing first (refused r) = refused_line r
+listing first (accepted ls) = head_line first ls ++ joined (house_line first) ls
 
 -- ---- the house lines of the first n rows of a table, into an output of so many bytes: row by row 11, 5; then 14,
 -- where the lines do not fit
 
 -- 5: "file number beyond u32"
-abbrev pub listedLine : ℕ → Line → Checked Line
-listedLine first (comment f n b) = accept (comment f n b)
-listedLine first (row r) = cond (numbered first r.terms) (accept (row r)) (refuse 5)
+abbrev pub listed_line : ℕ → Line → Checked Line
+listed_line first (comment f n b) = accept (comment f n b)
+listed_line first (row r) = cond (numbered first r.terms) (accept (row r)) (refuse 5)
 
 -- 11: "row that no table may hold", then 5
-unfoldable pub listedEntry : ℕ → Table → Entry → Checked Line
-listedEntry first t e = and_then (lineIn t e) (listedLine first)
+unfoldable pub listed_entry : ℕ → Table → Entry → Checked Line
+listed_entry first t e = and_then (line_in t e) (listed_line first)
 
-abbrev pub listedIn : ℕ → ℕ → Outcome (List Line) → Outcome (List ℕ)
-listedIn first room (refused r) = refused r
-listedIn first room (accepted ls) = fittedText room (listing first (accepted ls))
+abbrev pub listed_in : ℕ → ℕ → Outcome (List Line) → Outcome (List ℕ)
+listed_in first room (refused r) = refused r
+listed_in first room (accepted ls) = fitted_text room (listing first (accepted ls))
 
-unfoldable pub listingTable : ℕ → ℕ → Table → ℕ → Outcome (List ℕ)
-listingTable first n t room = listedIn first room (rowByRow (listedEntry first t) 0 (take n (entries t)))
+unfoldable pub listing_table : ℕ → ℕ → Table → ℕ → Outcome (List ℕ)
+listing_table first n t room = listed_in first room (row_by_row (listed_entry first t) 0 (take n (entries t)))

@@ -8,22 +8,22 @@ use Rattle.definitions.specs.Row.{Term, Kind, at_least, at_most, equal, objectiv
 abbrev pub Assignment : Type 0
 Assignment = ℕ → Bool
 
-unfoldable pub isTrue : Assignment → ℕ → Bool
-isTrue a c = cond (negated c) (not (a (index_of c))) (a (index_of c))
+unfoldable pub is_true : Assignment → ℕ → Bool
+is_true a c = cond (negated c) (not (a (index_of c))) (a (index_of c))
 
 -- the sum of the weights whose literal is true
 unfoldable pub sum_of : Assignment → List Term → ℤ
 sum_of a [] = pos 0
-sum_of a (t ∷ ts) = cond (isTrue a t.code) t.weight (pos 0) +ℤ sum_of a ts
+sum_of a (t ∷ ts) = cond (is_true a t.code) t.weight (pos 0) +ℤ sum_of a ts
 
-abbrev pub holdsBy : Kind → ℤ → ℤ → Bool
-holdsBy at_least s b = le_z b s
-holdsBy at_most s b = le_z s b
-holdsBy equal s b = le_z s b && le_z b s
-holdsBy objective s b = true
+abbrev pub holds_by : Kind → ℤ → ℤ → Bool
+holds_by at_least s b = le_z b s
+holds_by at_most s b = le_z s b
+holds_by equal s b = le_z s b && le_z b s
+holds_by objective s b = true
 
 unfoldable pub holds : Assignment → Row → Bool
-holds a r = holdsBy r.kind (sum_of a r.terms) r.bound
+holds a r = holds_by r.kind (sum_of a r.terms) r.bound
 
 -- "for an objective, the sum plus the bound column"
 unfoldable pub value_of : Assignment → Row → ℤ
@@ -34,15 +34,15 @@ unfoldable pub assigned : List ℕ → Assignment
 assigned ws v = eqb (get_or ws (v / 64) 0 / 2 ^ (v % 64) % 2) 1
 
 -- how many of the first n variables are true
-unfoldable pub trueBelow : Assignment → ℕ → ℕ
-trueBelow a zero = 0
-trueBelow a (suc n) = trueBelow a n + cond (a n) 1 0
+unfoldable pub true_below : Assignment → ℕ → ℕ
+true_below a zero = 0
+true_below a (suc n) = true_below a n + cond (a n) 1 0
 
 -- "the number of ones in the assignment's words"
-unfoldable pub onesOf : List ℕ → ℕ
-onesOf ws = trueBelow (assigned ws) (64 * length ws)
+unfoldable pub ones_of : List ℕ → ℕ
+ones_of ws = true_below (assigned ws) (64 * length ws)
 
 -- "Variables may stay unknown, so a second row of words says which are known" (02, A1): ws are the values, ks the known
 -- words. A variable beyond the shorter row is not known.
-unfoldable pub isKnown : List ℕ → List ℕ → ℕ → Bool
-isKnown ws ks v = ltb v (64 * length ws) && assigned ks v
+unfoldable pub is_known : List ℕ → List ℕ → ℕ → Bool
+is_known ws ks v = ltb v (64 * length ws) && assigned ks v

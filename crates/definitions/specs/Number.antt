@@ -1,23 +1,23 @@
 -- How is a number read, and how is one written (01, "The text")? "Number: optional sign, one or more digits, in signed
 -- 64 bits. Leading zeros are fine."
 use Rattle.std.specs.Prelude.{ℕ, zero, suc, ◌+◌, ◌-◌, ◌*◌, ◌/◌, ◌%◌, Bool, true, false, cond, List, [], ◌∷◌, ◌++◌, ltb, eqb, length, ℤ, pos, negsuc, neg_ℤ}
-use Rattle.definitions.specs.Limits.{inI64}
+use Rattle.definitions.specs.Limits.{in_i64}
 use Rattle.definitions.specs.Refusal.{fault}
-use Rattle.definitions.specs.Bytes.{isDigit, plus, minus}
+use Rattle.definitions.specs.Bytes.{is_digit, plus, minus}
 use Rattle.definitions.specs.Reader.{Got, none, got, Reader}
 
 -- the digits at the front, as many as there are
 unfoldable pub leading : List ℕ → List ℕ
 leading [] = []
-leading (b ∷ s) = elim (isDigit b) [ true ↦ b ∷ leading s | false ↦ [] ]
+leading (b ∷ s) = elim (is_digit b) [ true ↦ b ∷ leading s | false ↦ [] ]
 
 -- the number that digits stand for, after those that stand for a; the byte 48 is `0`
-unfoldable pub valueOn : ℕ → List ℕ → ℕ
-valueOn a [] = a
-valueOn a (b ∷ s) = valueOn (a * 10 + (b - 48)) s
+unfoldable pub value_on : ℕ → List ℕ → ℕ
+value_on a [] = a
+value_on a (b ∷ s) = value_on (a * 10 + (b - 48)) s
 
 abbrev pub value : List ℕ → ℕ
-value ds = valueOn 0 ds
+value ds = value_on 0 ds
 
 abbrev pub signed : Bool → ℕ → ℤ
 signed true m = neg_ℤ (pos m)
@@ -27,7 +27,7 @@ signed false m = pos m
 unfoldable pub ended : Bool → ℕ → List ℕ → Got ℤ
 ended negative k ds =
     cond (eqb (length ds) 0) (none (fault 3))
-    (cond (inI64 (signed negative (value ds))) (got (signed negative (value ds)) (k + length ds)) (none (fault 3)))
+    (cond (in_i64 (signed negative (value ds))) (got (signed negative (value ds)) (k + length ds)) (none (fault 3)))
 
 unfoldable pub number : Reader ℤ
 number [] = none (fault 3)
@@ -37,14 +37,14 @@ number (b ∷ s) =
     (ended false 0 (leading (b ∷ s))))
 
 -- the digits of n, with no zero in front but for 0 itself; the first argument is how many there may be
-unfoldable pub decimalIn : ℕ → ℕ → List ℕ
-decimalIn zero n = []
-decimalIn (suc k) n = elim (ltb n 10) [ true ↦ (48 + n) ∷ [] | false ↦ decimalIn k (n / 10) ++ ((48 + n % 10) ∷ []) ]
+unfoldable pub decimal_in : ℕ → ℕ → List ℕ
+decimal_in zero n = []
+decimal_in (suc k) n = elim (ltb n 10) [ true ↦ (48 + n) ∷ [] | false ↦ decimal_in k (n / 10) ++ ((48 + n % 10) ∷ []) ]
 
 unfoldable pub decimal : ℕ → List ℕ
-decimal n = decimalIn (suc n) n
+decimal n = decimal_in (suc n) n
 
 -- the text of an integer: "the least 64-bit number" too, with no sign but `-`
-abbrev pub integerText : ℤ → List ℕ
-integerText (pos n) = decimal n
-integerText (negsuc n) = minus ∷ decimal (suc n)
+abbrev pub integer_text : ℤ → List ℕ
+integer_text (pos n) = decimal n
+integer_text (negsuc n) = minus ∷ decimal (suc n)

@@ -2,7 +2,7 @@
 -- rest of the file from where the last one stopped")? Words of a theorem: proofs/WholeFile.antt has the statement.
 use Rattle.std.specs.Prelude.{ℕ, ◌+◌, ◌≡◌, true, List, [], ◌∷◌, ◌++◌, length}
 use Rattle.definitions.specs.Lists.{joined}
-use Rattle.definitions.specs.Bytes.{isBlank}
+use Rattle.definitions.specs.Bytes.{is_blank}
 use Rattle.definitions.specs.Walk.{Step, item}
 
 -- the pieces, one after the other
@@ -10,7 +10,7 @@ abbrev pub together : List (List ℕ) → List ℕ
 together xs = joined (λ (x : List ℕ). x) xs
 
 abbrev pub Blank : ℕ → Type 0
-Blank b = isBlank b ≡ true
+Blank b = is_blank b ≡ true
 
 module _ {A : Type 0} (step : List ℕ → Step A) (place : ℕ → A → A) where
   -- the pieces from the offset `at` on, and the items: each piece is exactly what `step` takes of it and all behind it,

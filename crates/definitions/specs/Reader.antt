@@ -15,13 +15,13 @@ abbrev pub more : {A : Type 0} → ℕ → Got A → Got A
 more n (none e) = none e
 more n (got a m) = got a (n + m)
 
-abbrev pub thenAt : {A B : Type 0} → Got A → (A → Reader B) → List ℕ → Got B
-thenAt (none e) k s = none e
-thenAt (got a n) k s = more n (k a (drop n s))
+abbrev pub then_at : {A B : Type 0} → Got A → (A → Reader B) → List ℕ → Got B
+then_at (none e) k s = none e
+then_at (got a n) k s = more n (k a (drop n s))
 
 -- p, then, on the rest, the reader that p's answer gives
 unfoldable pub chain : {A B : Type 0} → Reader A → (A → Reader B) → Reader B
-chain p k s = thenAt (p s) k s
+chain p k s = then_at (p s) k s
 
 unfoldable pub done : {A : Type 0} → A → Reader A
 done a s = got a 0

@@ -13,11 +13,11 @@ pub record Term : Type 0 where
 abbrev pub term : ℤ → ℕ → Term
 term w c = record { weight = w; code = c }
 
-abbrev pub weightOf : Term → ℤ
-weightOf t = t.weight
+abbrev pub weight_of : Term → ℤ
+weight_of t = t.weight
 
-abbrev pub literalOf : Term → ℕ
-literalOf t = t.code
+abbrev pub literal_of : Term → ℕ
+literal_of t = t.code
 
 -- the bound of an objective is its offset
 pub record Row : Type 0 where
@@ -34,9 +34,9 @@ pub data Line : Type 0 where
   comment : ℕ → ℕ → ℤ → Line
   row : Row → Line
 
-abbrev pub termsOf : Line → List Term
-termsOf (comment f n b) = []
-termsOf (row r) = r.terms
+abbrev pub terms_of : Line → List Term
+terms_of (comment f n b) = []
+terms_of (row r) = r.terms
 
 -- "sum of absolute weights in a row"
 unfoldable pub sizes : List Term → ℕ

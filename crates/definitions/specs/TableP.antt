@@ -11,8 +11,8 @@ use Rattle.definitions.specs.declared.Mode.{Mode}
 use Rattle.definitions.specs.File.{first_at, reading}
 use Rattle.definitions.specs.Write.{writing}
 
-abbrev pub modeFrom : ℕ → Bool → Mode
-modeFrom first noNegated = record { first = first; plain = noNegated }
+abbrev pub mode_from : ℕ → Bool → Mode
+mode_from first no_negated = record { first = first; plain = no_negated }
 
 -- columns with room for every example
 abbrev pub roomy : Table
@@ -28,9 +28,9 @@ pub data Answer : Type 0 where
   lines : Outcome (List Line) → Answer
   text : Outcome (List ℕ) → Answer
 
-unfoldable pub answerTo : Question → Answer
-answerTo (reads first s) = lines (reading (first_at first) (bytes s) roomy)
-answerTo (writes noNegated k n b ws ls) = text (writing (modeFrom 1 noNegated) (table (k ∷ []) (0 ∷ []) (n ∷ []) (b ∷ []) ws ls) [] 100)
+unfoldable pub answer_to : Question → Answer
+answer_to (reads first s) = lines (reading (first_at first) (bytes s) roomy)
+answer_to (writes no_negated k n b ws ls) = text (writing (mode_from 1 no_negated) (table (k ∷ []) (0 ∷ []) (n ∷ []) (b ∷ []) ws ls) [] 100)
 
 pub record Example : Type 0 where
   pub question : Question
@@ -42,8 +42,8 @@ reading-is first s o = record { question = reads first s; answer = lines o }
 abbrev pub writing-is : Bool → ℕ → ℕ → ℤ → List ℤ → List ℕ → S.String → Example
 writing-is m k n b ws ls s = record { question = writes m k n b ws ls; answer = text (accepted (bytes s)) }
 
-abbrev pub tableP : List Example
-tableP =
+abbrev pub table_p : List Example
+table_p =
     -- P1: empty: no rows
     reading-is 1 "" (accepted [])
     -- P2: at least 1

@@ -6,11 +6,11 @@ use mathlib.Core.List.{List, [], ◌∷◌, ◌++◌, append_assoc, head-eq_of_c
 use native.Mathlib.Omega.{arith}
 use lib.ListN.{length, length-append}
 use Rattle.definitions.specs.Lists.{joined, AllOf}
-use Rattle.definitions.specs.Bytes.{minText, lf}
-use Rattle.definitions.specs.Write.{closed, oneLine}
+use Rattle.definitions.specs.Bytes.{min_text, lf}
+use Rattle.definitions.specs.Write.{closed, one_line}
 use Rattle.document.specs.Document as D
 use Rattle.definitions.proofs.Each.{both-parts, each-mapped, each-so}
-use Rattle.document.proofs.DocumentTerms.{digitBytes}
+use Rattle.document.proofs.DocumentTerms.{digit_bytes}
 use Rattle.document.proofs.DocumentStatements.{lf-free, header-free, most_of, all-statements}
 
 -- ---- lines
@@ -54,9 +54,9 @@ same_lines x y p q l k e =
     let r = same-fronts l.front k.front p q l.free k.free whole in
     (l.whole ∙ ap (λ (z : List ℕ). z ++ (lf ∷ [])) r.0 ∙ sym k.whole, r.1)
 
-pub min-free : Free minText
-unfolding oneLine
-min-free = lf-free minText refl
+pub min-free : Free min_text
+unfolding one_line
+min-free = lf-free min_text refl
 
 -- ---- what the document has
 
@@ -71,10 +71,10 @@ pub record Allowed (P : ℕ → Type 0) : Type 0 where
   pub equals : P 61
 
 -- a constraint up to its `;`
-abbrev pub constraintFront : D.Constraint → List ℕ
-constraintFront c =
-    D.sumText (D.termsOf c.sum)
-    ++ (D.relationText c.relation ++ (D.spaces c.gap ++ (D.integerText c.bound ++ D.spaces c.behind)))
+abbrev pub constraint_front : D.Constraint → List ℕ
+constraint_front c =
+    D.sum_text (D.terms_of c.sum)
+    ++ (D.relation_text c.relation ++ (D.spaces c.gap ++ (D.integer_text c.bound ++ D.spaces c.behind)))
 
 module _ (P : ℕ → Type 0) (a : Allowed P) where
   spaces-bytes : (n : ℕ) → AllOf P (D.spaces n)
@@ -82,48 +82,48 @@ module _ (P : ℕ → Type 0) (a : Allowed P) where
   spaces-bytes zero = tt
   spaces-bytes (suc n) = (a.blank, spaces-bytes n)
 
-  digits-bytes : (ds : List ℕ) → AllOf D.IsDigit ds → AllOf P (digitBytes ds)
+  digits-bytes : (ds : List ℕ) → AllOf D.IsDigit ds → AllOf P (digit_bytes ds)
   digits-bytes [] g = tt
   digits-bytes (d ∷ ds) g = (a.digit d g.0, digits-bytes ds g.1)
 
-  integer-bytes : (z : D.Integer) → D.GoodInteger z → AllOf P (D.integerText z)
-  unfolding D.integerText
+  integer-bytes : (z : D.Integer) → D.GoodInteger z → AllOf P (D.integer_text z)
+  unfolding D.integer_text
   integer-bytes z g = by z.sign
     where
-      ds : AllOf P (digitBytes (z.first ∷ z.others))
+      ds : AllOf P (digit_bytes (z.first ∷ z.others))
       ds = digits-bytes (z.first ∷ z.others) g.digits
 
-      by : (s : D.Sign) → AllOf P (D.signText s ++ digitBytes (z.first ∷ z.others))
+      by : (s : D.Sign) → AllOf P (D.sign_text s ++ digit_bytes (z.first ∷ z.others))
       by D.unsigned = ds
       by D.plus = (a.plus, ds)
       by D.minus = (a.minus, ds)
 
-  relation-bytes : (r : D.Relation) → AllOf P (D.relationText r)
+  relation-bytes : (r : D.Relation) → AllOf P (D.relation_text r)
   relation-bytes D.at_least = (a.greater, (a.equals, tt))
   relation-bytes D.equal = (a.equals, tt)
 
   module _ (most : ℕ) where
-    term-bytes : (t : D.WeightedTerm) → D.GoodTerm most t → AllOf P (D.termText t)
-    unfolding D.termText
+    term-bytes : (t : D.WeightedTerm) → D.GoodTerm most t → AllOf P (D.term_text t)
+    unfolding D.term_text
     term-bytes t g =
-        both-parts P (D.integerText t.weight) _ (integer-bytes t.weight g.weight)
+        both-parts P (D.integer_text t.weight) _ (integer-bytes t.weight g.weight)
         (both-parts P (D.spaces (suc t.gap)) _ (spaces-bytes (suc t.gap)) (
           a.letter,
-          both-parts P (digitBytes (t.first ∷ t.others)) (D.spaces (suc t.behind))
+          both-parts P (digit_bytes (t.first ∷ t.others)) (D.spaces (suc t.behind))
               (digits-bytes (t.first ∷ t.others) g.digits) (spaces-bytes (suc t.behind)),
         ))
 
-    sum-bytes : (ts : List D.WeightedTerm) → AllOf (D.GoodTerm most) ts → AllOf P (D.sumText ts)
+    sum-bytes : (ts : List D.WeightedTerm) → AllOf (D.GoodTerm most) ts → AllOf P (D.sum_text ts)
     unfolding joined
     sum-bytes [] g = tt
-    sum-bytes (t ∷ ts) g = both-parts P (D.termText t) (D.sumText ts) (term-bytes t g.0) (sum-bytes ts g.1)
+    sum-bytes (t ∷ ts) g = both-parts P (D.term_text t) (D.sum_text ts) (term-bytes t g.0) (sum-bytes ts g.1)
 
-    pub constraint-bytes : (c : D.Constraint) → D.GoodConstraint most c → AllOf P (constraintFront c)
+    pub constraint-bytes : (c : D.Constraint) → D.GoodConstraint most c → AllOf P (constraint_front c)
     constraint-bytes c g =
-        both-parts P (D.sumText (D.termsOf c.sum)) _ (sum-bytes (D.termsOf c.sum) g.terms)
-        (both-parts P (D.relationText c.relation) _ (relation-bytes c.relation)
+        both-parts P (D.sum_text (D.terms_of c.sum)) _ (sum-bytes (D.terms_of c.sum) g.terms)
+        (both-parts P (D.relation_text c.relation) _ (relation-bytes c.relation)
         (both-parts P (D.spaces c.gap) _ (spaces-bytes c.gap)
-        (both-parts P (D.integerText c.bound) _ (integer-bytes c.bound g.bound) (spaces-bytes c.behind))))
+        (both-parts P (D.integer_text c.bound) _ (integer-bytes c.bound g.bound) (spaces-bytes c.behind))))
 
 no-lf-allowed : Allowed D.NoLineEnd
 no-lf-allowed = record {
@@ -140,22 +140,22 @@ module _ (most : ℕ) where
   -- what is asked of a statement, wherever it stands
   abbrev pub Shaped : D.Statement → Type 0
   Shaped (D.comment t) = Free t
-  Shaped (D.goal g) = AllOf (D.GoodTerm most) (D.termsOf g.sum)
+  Shaped (D.goal g) = AllOf (D.GoodTerm most) (D.terms_of g.sum)
   Shaped (D.constraint c) = D.GoodConstraint most c
 
-  pub constraint-parts : (c : D.Constraint) → D.constraintText c ≡ constraintFront c ++ closed
-  unfolding D.constraintText
+  pub constraint-parts : (c : D.Constraint) → D.constraint_text c ≡ constraint_front c ++ closed
+  unfolding D.constraint_text
   constraint-parts c = simp append_assoc
 
-  statement-line : (x : D.Statement) → Shaped x → OneLine (D.statementText x)
-  unfolding D.statementText D.commentText D.objectiveText
+  statement-line : (x : D.Statement) → Shaped x → OneLine (D.statement_text x)
+  unfolding D.statement_text D.comment_text D.objective_text
   statement-line (D.comment t) g = record { front = 42 ∷ t; whole = refl; free = ((λ q. omega arith), g) }
   statement-line (D.goal o) g =
-      line-behind minText _ min-free
+      line-behind min_text _ min-free
       (line-behind (D.spaces o.gap) _ (spaces-bytes D.NoLineEnd no-lf-allowed o.gap)
-      (line-behind (D.sumText (D.termsOf o.sum)) closed (sum-bytes D.NoLineEnd no-lf-allowed most (D.termsOf o.sum) g) closed-line))
+      (line-behind (D.sum_text (D.terms_of o.sum)) closed (sum-bytes D.NoLineEnd no-lf-allowed most (D.terms_of o.sum) g) closed-line))
   statement-line (D.constraint c) g =
-      rw (constraint-parts c) (line-behind (constraintFront c) closed (constraint-bytes D.NoLineEnd no-lf-allowed most c g) closed-line)
+      rw (constraint-parts c) (line-behind (constraint_front c) closed (constraint-bytes D.NoLineEnd no-lf-allowed most c g) closed-line)
 
   -- the first statement is the first line
   pub record Split (y rest : List ℕ) : Type 0 where
@@ -163,15 +163,15 @@ module _ (most : ℕ) where
     pub xs : List D.Statement
     pub shaped : Shaped x
     pub others : AllOf Shaped xs
-    pub text : D.statementText x ≡ y
-    pub behind : D.statementsText xs ≡ rest
+    pub text : D.statement_text x ≡ y
+    pub behind : D.statements_text xs ≡ rest
 
-  pub split-line : (xs : List D.Statement) (y rest : List ℕ) → AllOf Shaped xs → OneLine y → D.statementsText xs ≡ y ++ rest → Split y rest
+  pub split-line : (xs : List D.Statement) (y rest : List ℕ) → AllOf Shaped xs → OneLine y → D.statements_text xs ≡ y ++ rest → Split y rest
   unfolding joined
   split-line [] y rest g l e =
       absurd (omega (arith, ap length e, ap length l.whole, length-append y rest, length-append l.front (lf ∷ [])))
   split-line (x ∷ xs) y rest g l e =
-      let r = same_lines (D.statementText x) y (D.statementsText xs) rest (statement-line x g.0) l e in
+      let r = same_lines (D.statement_text x) y (D.statements_text xs) rest (statement-line x g.0) l e in
       record { x = x; xs = xs; shaped = g.0; others = g.1; text = r.0; behind = r.1 }
 
   -- ---- the statements of a file
@@ -181,7 +181,7 @@ module _ (most : ℕ) where
   shaped-statement (D.goal o) g = absurd g
   shaped-statement (D.constraint c) g = g
 
-pub shaped-file : (f : D.File) → D.WellFormed f → AllOf (Shaped (most_of f)) (D.statementsOf f)
+pub shaped-file : (f : D.File) → D.WellFormed f → AllOf (Shaped (most_of f)) (D.statements_of f)
 shaped-file f w =
     let n = most_of f in
     all-statements (Shaped n) f (header-free f)

@@ -5,9 +5,9 @@ use mathlib.Core.Path.{◌≡◌, refl}
 use mathlib.Core.List.{[], ◌∷◌}
 use native.Mathlib.Omega.{arith}
 use Rattle.definitions.specs.Lists.{joined}
-use Rattle.definitions.specs.Limits.{inI64}
+use Rattle.definitions.specs.Limits.{in_i64}
 use Rattle.document.specs.Document as D
-use Rattle.document.specs.DocumentRead.{weightsOf, SumWithin, WithinLimits}
+use Rattle.document.specs.DocumentRead.{weights_of, SumWithin, WithinLimits}
 use Rattle.definitions.specs.Bytes.{bytes}
 
 digit : ℕ → D.Integer
@@ -32,17 +32,17 @@ sample = record {
   body = D.constraint (record { sum = sum; relation = D.at_least; gap = 1; bound = digit 0; behind = 0 }) ∷ [];
 }
 
-pub sample-text : D.fileText sample ≡ bytes "* #variable= 2 #constraint= 1\n*a\nmin: +1  x1 -02 x2 ;\n+1  x1 -02 x2 >= 0;\n"
-unfolding sample digit left right sum D.spaces D.integerText D.termText D.constraintText D.objectiveText D.commentText
-    D.statementText D.headerOf D.statementsOf D.fileText joined
+pub sample-text : D.file_text sample ≡ bytes "* #variable= 2 #constraint= 1\n*a\nmin: +1  x1 -02 x2 ;\n+1  x1 -02 x2 >= 0;\n"
+unfolding sample digit left right sum D.spaces D.integer_text D.term_text D.constraint_text D.objective_text D.comment_text
+    D.statement_text D.header_of D.statements_of D.file_text joined
 sample-text = refl
 
 good_left : D.GoodTerm 2 left
-unfolding left D.variableOf D.digitsValue
+unfolding left D.variable_of D.digits_value
 good_left = record { weight = record { digits = (omega arith, tt) }; digits = (omega arith, tt); low = omega arith; high = omega arith }
 
 good_right : D.GoodTerm 2 right
-unfolding right D.variableOf D.digitsValue
+unfolding right D.variable_of D.digits_value
 good_right = record {
   weight = record { digits = (omega arith, (omega arith, tt)) };
   digits = (omega arith, tt);
@@ -51,7 +51,7 @@ good_right = record {
 }
 
 pub sample-good : D.WellFormed sample
-unfolding sample digit sum D.digitsValue D.constraintCount
+unfolding sample digit sum D.digits_value D.constraint_count
 sample-good = record {
   variables = (record { digits = (omega arith, tt) }, refl);
   constraints = (record { digits = (omega arith, tt) }, refl);
@@ -63,8 +63,8 @@ sample-good = record {
 }
 
 pub sample-within : WithinLimits sample
-unfolding sample digit left right sum D.spaces D.integerText D.termText D.constraintText D.objectiveText D.commentText
-    D.statementText D.headerOf D.statementsOf D.fileText joined D.variableOf D.digitsValue D.integerValue weightsOf inI64
+unfolding sample digit left right sum D.spaces D.integer_text D.term_text D.constraint_text D.objective_text D.comment_text
+    D.statement_text D.header_of D.statements_of D.file_text joined D.variable_of D.digits_value D.integer_value weights_of in_i64
 sample-within =
-    let small : SumWithin (D.termsOf sum) = record { weights = omega arith; indexes = (omega arith, (omega arith, tt)) } in
+    let small : SumWithin (D.terms_of sum) = record { weights = omega arith; indexes = (omega arith, (omega arith, tt)) } in
     record { file = omega arith; statements = (tt, (tt, (small, ((small, refl), tt)))) }

@@ -10,16 +10,16 @@ use borrow.Author.Tests.{le-leb}
 use lib.ListN.{length}
 use lib.IntN.{ℤ, pos, nat_abs, ◌+ℤ◌, ◌*ℤ◌, *ℤ-zero}
 use Rattle.definitions.specs.Lists.{joined, AllOf}
-use Rattle.definitions.specs.Limits.{indexLimit, fileNumberLimit, weightLimit, inI64}
+use Rattle.definitions.specs.Limits.{index_limit, file_number_limit, weight_limit, in_i64}
 use Rattle.definitions.specs.Refusal.{accept}
 use Rattle.definitions.specs.Bytes.{blanks, minus, plus, space}
-use Rattle.definitions.specs.Number.{leading, valueOn, value, number}
+use Rattle.definitions.specs.Number.{leading, value_on, value, number}
 use Rattle.definitions.specs.Literal.{index}
 use Rattle.definitions.specs.Row.{Term, term, sizes}
-use Rattle.definitions.specs.Text.{gap, gap1, weighted, beginsTerm, sum}
-use Rattle.definitions.specs.Meaning.{isTrue, sum_of}
+use Rattle.definitions.specs.Text.{gap, gap1, weighted, begins_term, sum}
+use Rattle.definitions.specs.Meaning.{is_true, sum_of}
 use Rattle.document.specs.Document as D
-use Rattle.document.specs.DocumentRead.{fromOne, weightsOf, IndexWithin, byIndex}
+use Rattle.document.specs.DocumentRead.{from_one, weights_of, IndexWithin, by_index}
 use Rattle.definitions.proofs.Whole.{up-mul, dn-mul, same, abs_is, is-in, in-true}
 use Rattle.definitions.proofs.Numbers.{leading-digit, number-minus, number-plus, number-unsigned, ended-got}
 use Rattle.definitions.proofs.Readback.{Reads, digit-begins, reads-gap, reads-gap1, reads_plain, reads-weighted}
@@ -38,20 +38,20 @@ spaces-leading n rest = refl
 
 -- ---- digits
 
-abbrev pub digitBytes : List ℕ → List ℕ
-digitBytes ds = map D.digitText ds
+abbrev pub digit_bytes : List ℕ → List ℕ
+digit_bytes ds = map D.digit_text ds
 
-digits_value : (n : ℕ) (ds : List ℕ) → valueOn n (digitBytes ds) ≡ D.digitsValue n ds
-unfolding valueOn D.digitsValue
-digits_value n [] = refl
-digits_value n (d ∷ ds) =
+digits_value_lem : (n : ℕ) (ds : List ℕ) → value_on n (digit_bytes ds) ≡ D.digits_value n ds
+unfolding value_on D.digits_value
+digits_value_lem n [] = refl
+digits_value_lem n (d ∷ ds) =
     let e : n * 10 + (48 + d - 48) ≡ n * 10 + d = omega arith in
-    ap (λ (k : ℕ). valueOn k (digitBytes ds)) e ∙ digits_value (n * 10 + d) ds
+    ap (λ (k : ℕ). value_on k (digit_bytes ds)) e ∙ digits_value_lem (n * 10 + d) ds
 
-pub digits-leading : (ds rest : List ℕ) → AllOf D.IsDigit ds → leading rest ≡ [] → leading (digitBytes ds ++ rest) ≡ digitBytes ds
+pub digits-leading : (ds rest : List ℕ) → AllOf D.IsDigit ds → leading rest ≡ [] → leading (digit_bytes ds ++ rest) ≡ digit_bytes ds
 digits-leading [] rest g e = e
 digits-leading (d ∷ ds) rest g e =
-    leading-digit (48 + d) (digitBytes ds ++ rest) (omega arith) (omega (arith, g.0))
+    leading-digit (48 + d) (digit_bytes ds ++ rest) (omega arith) (omega (arith, g.0))
     ∙ ap (λ (l : List ℕ). (48 + d) ∷ l) (digits-leading ds rest g.1 e)
 
 -- ---- integers
@@ -60,88 +60,88 @@ module _ (z : D.Integer) (rest : List ℕ) (g : D.GoodInteger z) where
   abbrev ds : List ℕ
   ds = z.first ∷ z.others
 
-  digit-front : (rest : List ℕ) → 0 < length (leading (digitBytes ds ++ rest))
+  digit-front : (rest : List ℕ) → 0 < length (leading (digit_bytes ds ++ rest))
   digit-front rest =
-      rw (leading-digit (48 + z.first) (digitBytes z.others ++ rest) (omega arith) (omega (arith, g.digits.0))) (omega arith)
+      rw (leading-digit (48 + z.first) (digit_bytes z.others ++ rest) (omega arith) (omega (arith, g.digits.0))) (omega arith)
 
-  pub integer-begins : beginsTerm (D.integerText z ++ rest) ≡ true
-  unfolding D.integerText beginsTerm
+  pub integer-begins : begins_term (D.integer_text z ++ rest) ≡ true
+  unfolding D.integer_text begins_term
   integer-begins = by z.sign
     where
-      by : (s : D.Sign) → beginsTerm ((D.signText s ++ digitBytes ds) ++ rest) ≡ true
-      by D.unsigned = digit-begins (digitBytes ds ++ rest) (digit-front rest)
+      by : (s : D.Sign) → begins_term ((D.sign_text s ++ digit_bytes ds) ++ rest) ≡ true
+      by D.unsigned = digit-begins (digit_bytes ds ++ rest) (digit-front rest)
       by D.plus = refl
       by D.minus = refl
 
-  pub reads-integer : inI64 (D.integerValue z) ≡ true → leading rest ≡ [] → Reads number (D.integerText z) rest (D.integerValue z)
-  unfolding D.integerText D.integerValue
+  pub reads-integer : in_i64 (D.integer_value z) ≡ true → leading rest ≡ [] → Reads number (D.integer_text z) rest (D.integer_value z)
+  unfolding D.integer_text D.integer_value
   reads-integer f e = by z.sign f
     where
-      front : leading (digitBytes ds ++ rest) ≡ digitBytes ds
+      front : leading (digit_bytes ds ++ rest) ≡ digit_bytes ds
       front = digits-leading ds rest g.digits e
 
-      worth : value (digitBytes ds) ≡ D.digitsValue 0 ds
-      worth = digits_value 0 ds
+      worth : value (digit_bytes ds) ≡ D.digits_value 0 ds
+      worth = digits_value_lem 0 ds
 
-      by : (s : D.Sign) → inI64 (D.signedBy s (D.digitsValue 0 ds)) ≡ true
-          → Reads number (D.signText s ++ digitBytes ds) rest (D.signedBy s (D.digitsValue 0 ds))
+      by : (s : D.Sign) → in_i64 (D.signed_by s (D.digits_value 0 ds)) ≡ true
+          → Reads number (D.sign_text s ++ digit_bytes ds) rest (D.signed_by s (D.digits_value 0 ds))
       by D.unsigned f = record {
         reads =
-            number-unsigned (digitBytes ds ++ rest) (omega arith) (λ q. omega arith) (λ q. omega arith)
-            ∙ rw front (ended-got false 0 (digitBytes ds) (λ q. omega arith) (rw worth f) ∙ rw (worth, zero-add));
+            number-unsigned (digit_bytes ds ++ rest) (omega arith) (λ q. omega arith) (λ q. omega arith)
+            ∙ rw front (ended-got false 0 (digit_bytes ds) (λ q. omega arith) (rw worth f) ∙ rw (worth, zero-add));
       }
       by D.plus f = record {
         reads =
-            number-plus (plus ∷ (digitBytes ds ++ rest)) (omega arith) refl
-            ∙ rw front (ended-got false 1 (digitBytes ds) (λ q. omega arith) (rw worth f) ∙ rw (worth, one-add));
+            number-plus (plus ∷ (digit_bytes ds ++ rest)) (omega arith) refl
+            ∙ rw front (ended-got false 1 (digit_bytes ds) (λ q. omega arith) (rw worth f) ∙ rw (worth, one-add));
       }
       by D.minus f = record {
         reads =
-            number-minus (minus ∷ (digitBytes ds ++ rest)) (omega arith) refl
-            ∙ rw front (ended-got true 1 (digitBytes ds) (λ q. omega arith) (rw worth f) ∙ rw (worth, one-add));
+            number-minus (minus ∷ (digit_bytes ds ++ rest)) (omega arith) refl
+            ∙ rw front (ended-got true 1 (digit_bytes ds) (λ q. omega arith) (rw worth f) ∙ rw (worth, one-add));
       }
 
 -- ---- terms and sums
 
 -- the term that the document's term is: its variable, plain, by index
-abbrev pub termFor : D.WeightedTerm → Term
-termFor t = term (D.integerValue t.weight) (2 * (D.variableOf t - 1))
+abbrev pub term_for : D.WeightedTerm → Term
+term_for t = term (D.integer_value t.weight) (2 * (D.variable_of t - 1))
 
 -- what is asked of a term, with a weight of 64 bits
 pub record Readable (most : ℕ) (t : D.WeightedTerm) : Type 0 where
   pub good : D.GoodTerm most t
-  pub weight : inI64 (D.integerValue t.weight) ≡ true
+  pub weight : in_i64 (D.integer_value t.weight) ≡ true
   pub index : IndexWithin t
 
 module _ (most : ℕ) (t : D.WeightedTerm) (g : Readable most t) where
-  term-begins : (rest : List ℕ) → beginsTerm (D.termText t ++ rest) ≡ true
-  unfolding D.termText
+  term-begins : (rest : List ℕ) → begins_term (D.term_text t ++ rest) ≡ true
+  unfolding D.term_text
   term-begins rest = rw append_assoc (integer-begins t.weight _ g.good.weight)
 
-  has-index : index 1 (value (digitBytes (t.first ∷ t.others))) ≡ accept (D.variableOf t - 1)
-  unfolding index D.variableOf
+  has-index : index 1 (value (digit_bytes (t.first ∷ t.others))) ≡ accept (D.variable_of t - 1)
+  unfolding index D.variable_of
   has-index =
-      let v = D.digitsValue 0 (t.first ∷ t.others) in
+      let v = D.digits_value 0 (t.first ∷ t.others) in
       let low : 1 ≤ v = g.good.low in
-      let within : v - 1 ≤ indexLimit = g.index in
-      rw (digits_value 0 (t.first ∷ t.others), le-leb v fileNumberLimit (omega arith), le-leb 1 v low, le-leb (v - 1) indexLimit within)
+      let within : v - 1 ≤ index_limit = g.index in
+      rw (digits_value_lem 0 (t.first ∷ t.others), le-leb v file_number_limit (omega arith), le-leb 1 v low, le-leb (v - 1) index_limit within)
 
   -- blanks before the variable, whatever stands behind it
   before-variable : (y rest : List ℕ) → Reads gap1 (D.spaces (suc t.gap)) ((120 ∷ y) ++ rest) (suc (length (D.spaces t.gap)))
   unfolding D.spaces blanks
   before-variable y rest = reads-gap1 space (D.spaces t.gap) ((120 ∷ y) ++ rest) (spaces-blanks (suc t.gap) ((120 ∷ y) ++ rest) refl)
 
-  reads-term : (rest : List ℕ) → blanks rest ≡ 0 → Reads (weighted fromOne) (D.termText t) rest (termFor t)
-  unfolding D.termText
+  reads-term : (rest : List ℕ) → blanks rest ≡ 0 → Reads (weighted from_one) (D.term_text t) rest (term_for t)
+  unfolding D.term_text
   reads-term rest e =
       let vs = t.first ∷ t.others in
-      let x = D.integerText t.weight in
-      let l : List ℕ = 120 ∷ digitBytes vs in
+      let x = D.integer_text t.weight in
+      let l : List ℕ = 120 ∷ digit_bytes vs in
       let b = D.spaces (suc t.behind) in
       let no_digit : leading ((D.spaces (suc t.gap) ++ (l ++ b)) ++ rest) ≡ [] = rw append_assoc (spaces-leading t.gap _) in
-      reads-weighted fromOne x (D.spaces (suc t.gap)) l b (reads-integer t.weight _ g.good.weight g.weight no_digit)
-      (before-variable (digitBytes vs ++ b) rest)
-      (reads_plain fromOne (digitBytes vs) (b ++ rest) (D.variableOf t - 1)
+      reads-weighted from_one x (D.spaces (suc t.gap)) l b (reads-integer t.weight _ g.good.weight g.weight no_digit)
+      (before-variable (digit_bytes vs ++ b) rest)
+      (reads_plain from_one (digit_bytes vs) (b ++ rest) (D.variable_of t - 1)
       (digits-leading vs (b ++ rest) g.good.digits (spaces-leading t.behind rest)) (omega arith) has-index)
       (reads-gap b rest (spaces-blanks (suc t.behind) rest e))
 
@@ -151,48 +151,48 @@ times-bit w false = sym (*ℤ-zero w)
 
 module _ (most : ℕ) where
   pub sum-begins : (t : D.WeightedTerm) (ts : List D.WeightedTerm) (y rest : List ℕ) → Readable most t
-      → beginsTerm ((D.sumText (t ∷ ts) ++ y) ++ rest) ≡ true
+      → begins_term ((D.sum_text (t ∷ ts) ++ y) ++ rest) ≡ true
   unfolding joined
-  sum-begins t ts y rest g = simp append_assoc (term-begins most t g (D.sumText ts ++ (y ++ rest)))
+  sum-begins t ts y rest g = simp append_assoc (term-begins most t g (D.sum_text ts ++ (y ++ rest)))
 
-  pub reads-document-sum : (ts : List D.WeightedTerm) (rest : List ℕ) → AllOf (Readable most) ts → blanks rest ≡ 0 → beginsTerm rest ≡ false
-      → Reads (sum fromOne) (D.sumText ts) rest (map termFor ts)
+  pub reads-document-sum : (ts : List D.WeightedTerm) (rest : List ℕ) → AllOf (Readable most) ts → blanks rest ≡ 0 → begins_term rest ≡ false
+      → Reads (sum from_one) (D.sum_text ts) rest (map term_for ts)
   reads-document-sum ts rest g e n =
-      reads-terms fromOne D.termText termFor (Readable most) (λ t s q. term-begins most t q s)
+      reads-terms from_one D.term_text term_for (Readable most) (λ t s q. term-begins most t q s)
       (λ t s q h. reads-term most t q s h) ts rest g e n
 
   -- ---- what they mean
 
-  pub sizes-of : (ts : List D.WeightedTerm) → sizes (map termFor ts) ≡ weightsOf ts
-  unfolding sizes weightsOf
+  pub sizes-of : (ts : List D.WeightedTerm) → sizes (map term_for ts) ≡ weights_of ts
+  unfolding sizes weights_of
   sizes-of [] = refl
-  sizes-of (t ∷ ts) = ap (λ (n : ℕ). nat_abs (D.integerValue t.weight) + n) (sizes-of ts)
+  sizes-of (t ∷ ts) = ap (λ (n : ℕ). nat_abs (D.integer_value t.weight) + n) (sizes-of ts)
 
-  true-where : (b : ℕ → Bool) (t : D.WeightedTerm) → 1 ≤ D.variableOf t → isTrue (byIndex b) (2 * (D.variableOf t - 1)) ≡ b (D.variableOf t)
-  unfolding isTrue
+  true-where : (b : ℕ → Bool) (t : D.WeightedTerm) → 1 ≤ D.variable_of t → is_true (by_index b) (2 * (D.variable_of t - 1)) ≡ b (D.variable_of t)
+  unfolding is_true
   true-where b t h =
-      let v = D.variableOf t in
+      let v = D.variable_of t in
       let even : 2 * (v - 1) % 2 ≡ 0 = omega arith in
       let half : 2 * (v - 1) / 2 + 1 ≡ v = omega arith in
       rw (even, half)
 
   pub sum-means : (b : ℕ → Bool) (ts : List D.WeightedTerm) → AllOf (Readable most) ts
-      → sum_of (byIndex b) (map termFor ts) ≡ D.sumValue b ts
-  unfolding sum_of D.sumValue
+      → sum_of (by_index b) (map term_for ts) ≡ D.sum_value b ts
+  unfolding sum_of D.sum_value
   sum-means b [] g = refl
   sum-means b (t ∷ ts) g =
       ap₂ (λ (x y : ℤ). x +ℤ y)
-      (ap (λ (c : Bool). cond c (D.integerValue t.weight) (pos 0)) (true-where b t g.0.good.low)
-      ∙ times-bit (D.integerValue t.weight) (b (D.variableOf t)))
+      (ap (λ (c : Bool). cond c (D.integer_value t.weight) (pos 0)) (true-where b t g.0.good.low)
+      ∙ times-bit (D.integer_value t.weight) (b (D.variable_of t)))
       (sum-means b ts g.1)
 
   -- a sum within its limits has weights of 64 bits
-  pub readable-sum : (ts : List D.WeightedTerm) → AllOf (D.GoodTerm most) ts → AllOf IndexWithin ts → weightsOf ts ≤ weightLimit
+  pub readable-sum : (ts : List D.WeightedTerm) → AllOf (D.GoodTerm most) ts → AllOf IndexWithin ts → weights_of ts ≤ weight_limit
       → AllOf (Readable most) ts
-  unfolding weightsOf
+  unfolding weights_of
   readable-sum [] g i h = tt
   readable-sum (t ∷ ts) g i h =
-      let w = D.integerValue t.weight in (
+      let w = D.integer_value t.weight in (
         record { good = g.0; weight = in-true w (is-in w (omega (arith, abs_is w)) (omega (arith, abs_is w))); index = i.0 },
         readable-sum ts g.1 i.1 (omega arith),
       )

@@ -10,27 +10,27 @@ use borrow.Author.Tests.{lt-leb}
 use lib.ListN.{length, take}
 use lib.IntN.{pos}
 use Rattle.definitions.specs.Lists.{joined, starts_with, AllOf}
-use Rattle.definitions.specs.Limits.{fileLimit, inI64}
+use Rattle.definitions.specs.Limits.{file_limit, in_i64}
 use Rattle.definitions.specs.Refusal.{refusal, needed}
-use Rattle.definitions.specs.Bytes.{classOf, is_at, blanks, lineEnding, untilEnding, minText, bytes}
+use Rattle.definitions.specs.Bytes.{class_of, is_at, blanks, line_ending, until_ending, min_text, bytes}
 use Rattle.definitions.specs.Reader.{chain, done, fail}
-use Rattle.definitions.specs.Number.{leading, valueOn, ended, number, decimalIn, decimal}
-use Rattle.definitions.specs.Literal.{opposite, plain, index, fileNumber}
+use Rattle.definitions.specs.Number.{leading, value_on, ended, number, decimal_in, decimal}
+use Rattle.definitions.specs.Literal.{opposite, plain, index, file_number}
 use Rattle.definitions.specs.Walk.{walk, all}
 use Rattle.definitions.specs.Row.{term, row_of, row, sizes}
 use Rattle.definitions.specs.declared.Kind.TheVariants.{AtLeast as at_least}
-use Rattle.definitions.specs.Text.{gap, gap1, digits, variable, literal, afterWeight, weighted, beginsTerm, termStep, sum}
-use Rattle.definitions.specs.Text.{operator, closing, ending, comparison, finished, constraint, minWord, minBlanks, goal, remark}
-use Rattle.definitions.specs.Text.{statementAt, statement}
-use Rattle.definitions.specs.Table.{table, refused, accepted, fitted, entriesOf, termsOn, indexed, sortOf, rowByRow}
+use Rattle.definitions.specs.Text.{gap, gap1, digits, variable, literal, after_weight, weighted, begins_term, term_step, sum}
+use Rattle.definitions.specs.Text.{operator, closing, ending, comparison, finished, constraint, min_word, min_blanks, goal, remark}
+use Rattle.definitions.specs.Text.{statement_at, statement}
+use Rattle.definitions.specs.Table.{table, refused, accepted, fitted, entries_of, terms_on, indexed, sort_of, row_by_row}
 use Rattle.definitions.specs.File.{statements, file, reading}
-use Rattle.definitions.specs.Normal.{totalBy}
-use Rattle.definitions.specs.Write.{flipTerm, flipped, plainTerm, fall, unnegated, printed, numberText, literalText, termText}
-use Rattle.definitions.specs.Write.{spaced, apart, closed, remarkText, offsetText, comparisonText, rowText, itemText, weighs}
-use Rattle.definitions.specs.Write.{unitTerm, itemIn, numbered, bounded, rowAllowed, writtenIn, writing}
+use Rattle.definitions.specs.Normal.{total_by}
+use Rattle.definitions.specs.Write.{flip_term, flipped, plain_term, fall, unnegated, printed, number_text, literal_text, term_text}
+use Rattle.definitions.specs.Write.{spaced, apart, closed, remark_text, offset_text, comparison_text, row_text, item_text, weighs}
+use Rattle.definitions.specs.Write.{unit_term, item_in, numbered, bounded, row_allowed, written_in, writing}
 use Rattle.document.specs.Document as D
-use Rattle.document.specs.DocumentRead.{fromOne, weightsOf, WithinLimits}
-use Rattle.definitions.specs.TableP.{modeFrom, Example, writes, text, answerTo, reading-is, writing-is}
+use Rattle.document.specs.DocumentRead.{from_one, weights_of, WithinLimits}
+use Rattle.definitions.specs.TableP.{mode_from, Example, writes, text, answer_to, reading-is, writing-is}
 use Rattle.definitions.specs.declared.Options.{Options}
 use Rattle.definitions.proofs.Each.{right-part}
 use Rattle.document.proofs.DocumentStatements.{most_of}
@@ -40,13 +40,13 @@ use Rattle.document.proofs.OutsideDocument.{refused-outside, tilde-outside, goal
 -- ---- there and back
 
 -- "within the length limit": a longer file is refused
-pub longer-refused : (o : Options) (s : List ℕ) → fileLimit < length s → file o s ≡ refused (refusal 1 0)
+pub longer-refused : (o : Options) (s : List ℕ) → file_limit < length s → file o s ≡ refused (refusal 1 0)
 unfolding file
-longer-refused o s h = rw (lt-leb (length s) fileLimit h)
+longer-refused o s h = rw (lt-leb (length s) file_limit h)
 
 -- each with the answer. The tables that are read into have room for two rows and two terms
-abbrev pub withoutThem : List Example
-withoutThem =
+abbrev pub without_them : List Example
+without_them =
     -- "whose rows the writer accepts": a constraint without terms is refused, and the line for it would not be read
     record { question = writes true 1 0 (pos 1) [] []; answer = text (refused (refusal 13 0)) }
     ∷ reading-is 1 ">= 1;\n" (refused (refusal 2 0))
@@ -69,13 +69,13 @@ withoutThem =
     ∷ reading-is 2 "1 x1 >= 1;\n" (refused (refusal 5 0))
     ∷ []
 
-pub without-them : map (λ (e : Example). answerTo e.question) withoutThem ≡ map (λ (e : Example). e.answer) withoutThem
-unfolding starts_with inI64 needed classOf is_at blanks lineEnding untilEnding chain done fail leading valueOn ended number decimalIn
-    decimal opposite plain index fileNumber walk all sizes gap gap1 digits variable literal afterWeight weighted beginsTerm termStep
-    sum operator closing ending comparison finished constraint minWord minBlanks goal remark statementAt statement fitted entriesOf
-    termsOn indexed sortOf rowByRow statements file reading totalBy flipTerm flipped plainTerm fall unnegated printed numberText
-    literalText termText spaced apart joined remarkText offsetText comparisonText rowText itemText weighs unitTerm itemIn numbered
-    bounded rowAllowed writtenIn writing answerTo
+pub without-them : map (λ (e : Example). answer_to e.question) without_them ≡ map (λ (e : Example). e.answer) without_them
+unfolding starts_with in_i64 needed class_of is_at blanks line_ending until_ending chain done fail leading value_on ended number decimal_in
+    decimal opposite plain index file_number walk all sizes gap gap1 digits variable literal after_weight weighted begins_term term_step
+    sum operator closing ending comparison finished constraint min_word min_blanks goal remark statement_at statement fitted entries_of
+    terms_on indexed sort_of row_by_row statements file reading total_by flip_term flipped plain_term fall unnegated printed number_text
+    literal_text term_text spaced apart joined remark_text offset_text comparison_text row_text item_text weighs unit_term item_in numbered
+    bounded row_allowed written_in writing answer_to
 without-them = refl
 
 -- ---- the document is read (of a file above the length limit `longer-refused` says it)
@@ -89,16 +89,16 @@ beyond =
     ∷ one-constraint [] (on (number_of 1 "") 1 "") [] (number_of 9 "223372036854775808")
     ∷ []
 
-pub beyond-refused : map (λ (f : D.File). file fromOne (D.fileText f)) beyond
+pub beyond-refused : map (λ (f : D.File). file from_one (D.file_text f)) beyond
     ≡ refused (refusal 3 39) ∷ refused (refusal 8 39) ∷ refused (refusal 5 39) ∷ refused (refusal 3 39) ∷ []
-unfolding beyond one-constraint on number_of D.spaces D.integerText D.termText D.constraintText D.commentText D.statementText
-    D.headerOf D.statementsOf D.fileText joined starts_with inI64 classOf is_at blanks lineEnding untilEnding chain done fail leading
-    valueOn ended number index walk all sizes gap gap1 digits variable literal afterWeight weighted beginsTerm termStep sum operator
-    closing ending comparison finished constraint remark statementAt statement statements file
+unfolding beyond one-constraint on number_of D.spaces D.integer_text D.term_text D.constraint_text D.comment_text D.statement_text
+    D.header_of D.statements_of D.file_text joined starts_with in_i64 class_of is_at blanks line_ending until_ending chain done fail leading
+    value_on ended number index walk all sizes gap gap1 digits variable literal after_weight weighted begins_term term_step sum operator
+    closing ending comparison finished constraint remark statement_at statement statements file
 beyond-refused = refl
 
 pub beyond-good : AllOf D.WellFormed beyond
-unfolding beyond on number_of all_small D.variableOf D.digitsValue
+unfolding beyond on number_of all_small D.variable_of D.digits_value
 beyond-good = (
   good-file _ _ _ (good-term _ refl refl refl refl, tt) refl,
   (
@@ -120,17 +120,17 @@ malformed =
     ∷ one-constraint [] (on (number_of 10 "") 1 "") [] (number_of 0 "")
     ∷ []
 
-pub malformed-refused : map (λ (f : D.File). file fromOne (D.fileText f)) malformed
+pub malformed-refused : map (λ (f : D.File). file from_one (D.file_text f)) malformed
     ≡ refused (refusal 5 39) ∷ refused (refusal 2 42) ∷ refused (refusal 2 39) ∷ []
-unfolding malformed one-constraint on number_of D.spaces D.integerText D.termText D.constraintText D.commentText D.statementText
-    D.headerOf D.statementsOf D.fileText joined starts_with inI64 classOf is_at blanks lineEnding untilEnding chain done fail leading
-    valueOn ended number index walk all sizes gap gap1 digits variable literal afterWeight weighted beginsTerm termStep sum operator
-    closing ending comparison finished constraint remark statementAt statement statements file
+unfolding malformed one-constraint on number_of D.spaces D.integer_text D.term_text D.constraint_text D.comment_text D.statement_text
+    D.header_of D.statements_of D.file_text joined starts_with in_i64 class_of is_at blanks line_ending until_ending chain done fail leading
+    value_on ended number index walk all sizes gap gap1 digits variable literal after_weight weighted begins_term term_step sum operator
+    closing ending comparison finished constraint remark statement_at statement statements file
 malformed-refused = refl
 
 pub malformed-within : AllOf WithinLimits malformed
-unfolding malformed one-constraint on number_of D.spaces D.integerText D.termText D.constraintText D.commentText D.statementText
-    D.headerOf D.statementsOf D.fileText joined D.variableOf D.digitsValue D.integerValue weightsOf
+unfolding malformed one-constraint on number_of D.spaces D.integer_text D.term_text D.constraint_text D.comment_text D.statement_text
+    D.header_of D.statements_of D.file_text joined D.variable_of D.digits_value D.integer_value weights_of
 malformed-within = (within-file _ _ refl refl refl, (within-file _ _ refl refl refl, (within-file _ _ refl refl refl, tt)))
 
 -- ---- what is written lies in the document: without what is asked for it would not
@@ -139,46 +139,46 @@ abbrev headed : S.String → List ℕ
 headed s = bytes "* #variable= 1 #constraint= 1\n" ++ bytes s
 
 -- a row that the writer refuses: the line of a constraint without terms is in no such file
-pub no-terms-outside : (f : D.File) → D.WellFormed f → WithinLimits f → D.fileText f ≡ headed ">= 1;\n" → ⊥
-unfolding starts_with classOf is_at blanks lineEnding untilEnding fail walk all remark statementAt statement statements file
+pub no-terms-outside : (f : D.File) → D.WellFormed f → WithinLimits f → D.file_text f ≡ headed ">= 1;\n" → ⊥
+unfolding starts_with class_of is_at blanks line_ending until_ending fail walk all remark statement_at statement statements file
 no-terms-outside f w l e = refused-outside f w l (headed ">= 1;\n") (refusal 2 30) refl e
 
 -- first index 1: with first index 0 there is a variable x0
-pub from_zero : writing (modeFrom 0 true) (table (1 ∷ []) (0 ∷ []) (1 ∷ []) (pos 1 ∷ []) (pos 1 ∷ []) (0 ∷ [])) [] 100
+pub from_zero : writing (mode_from 0 true) (table (1 ∷ []) (0 ∷ []) (1 ∷ []) (pos 1 ∷ []) (pos 1 ∷ []) (0 ∷ [])) [] 100
     ≡ accepted (bytes "1 x0 >= 1;\n")
-unfolding inI64 sizes decimalIn decimal opposite plain fileNumber entriesOf termsOn indexed sortOf rowByRow totalBy flipTerm flipped
-    plainTerm fall unnegated printed numberText literalText termText spaced joined comparisonText rowText itemText weighs itemIn
-    numbered bounded rowAllowed writtenIn writing
+unfolding in_i64 sizes decimal_in decimal opposite plain file_number entries_of terms_on indexed sort_of row_by_row total_by flip_term flipped
+    plain_term fall unnegated printed number_text literal_text term_text spaced joined comparison_text row_text item_text weighs item_in
+    numbered bounded row_allowed written_in writing
 from_zero = refl
 
-pub from-zero-outside : (f : D.File) → D.WellFormed f → WithinLimits f → D.fileText f ≡ headed "1 x0 >= 1;\n" → ⊥
-unfolding starts_with inI64 classOf is_at blanks lineEnding untilEnding chain done leading valueOn ended number index walk all gap
-    gap1 digits variable literal afterWeight weighted beginsTerm termStep sum constraint remark statementAt statement statements
+pub from-zero-outside : (f : D.File) → D.WellFormed f → WithinLimits f → D.file_text f ≡ headed "1 x0 >= 1;\n" → ⊥
+unfolding starts_with in_i64 class_of is_at blanks line_ending until_ending chain done leading value_on ended number index walk all gap
+    gap1 digits variable literal after_weight weighted begins_term term_step sum constraint remark statement_at statement statements
     file
 from-zero-outside f w l e = refused-outside f w l (headed "1 x0 >= 1;\n") (refusal 5 30) refl e
 
 -- no-negated mode: in the other a negated literal is written with `~`
-pub negated-written : writing (modeFrom 1 false) (table (1 ∷ []) (0 ∷ []) (1 ∷ []) (pos 1 ∷ []) (pos 1 ∷ []) (1 ∷ [])) [] 100
+pub negated-written : writing (mode_from 1 false) (table (1 ∷ []) (0 ∷ []) (1 ∷ []) (pos 1 ∷ []) (pos 1 ∷ []) (1 ∷ [])) [] 100
     ≡ accepted (bytes "1 ~x1 >= 1;\n")
-unfolding inI64 sizes decimalIn decimal opposite plain fileNumber entriesOf termsOn indexed sortOf rowByRow totalBy flipTerm flipped
-    plainTerm fall unnegated printed numberText literalText termText spaced joined comparisonText rowText itemText weighs itemIn
-    numbered bounded rowAllowed writtenIn writing
+unfolding in_i64 sizes decimal_in decimal opposite plain file_number entries_of terms_on indexed sort_of row_by_row total_by flip_term flipped
+    plain_term fall unnegated printed number_text literal_text term_text spaced joined comparison_text row_text item_text weighs item_in
+    numbered bounded row_allowed written_in writing
 negated-written = refl
 
-pub negated-outside : (f : D.File) → D.WellFormed f → D.fileText f ≡ headed "1 ~x1 >= 1;\n" → ⊥
+pub negated-outside : (f : D.File) → D.WellFormed f → D.file_text f ≡ headed "1 ~x1 >= 1;\n" → ⊥
 negated-outside = tilde-outside
 
 -- the header: every file of the document begins with its words
-pub header-first : (f : D.File) → take 13 (D.fileText f) ≡ bytes "* #variable= "
-unfolding D.fileText D.statementsOf D.statementText D.commentText D.headerOf joined
+pub header-first : (f : D.File) → take 13 (D.file_text f) ≡ bytes "* #variable= "
+unfolding D.file_text D.statements_of D.statement_text D.comment_text D.header_of joined
 header-first f = refl
 
 -- its numbers: a variable beyond N, or another count than M, is not well formed
 pub beyond-n : (f : D.File) (c : D.Constraint) (xs : List D.Statement) → f.body ≡ D.constraint c ∷ xs
-    → most_of f < D.variableOf c.sum.first → D.WellFormed f → ⊥
+    → most_of f < D.variable_of c.sum.first → D.WellFormed f → ⊥
 beyond-n f c xs e h w = omega (arith, (subst (AllOf (D.GoodStatement (most_of f))) e w.body).0.terms.0.high)
 
-pub other-count : (f : D.File) → (D.unsignedValue f.constraints ≡ D.constraintCount f.body → ⊥) → D.WellFormed f → ⊥
+pub other-count : (f : D.File) → (D.unsigned_value f.constraints ≡ D.constraint_count f.body → ⊥) → D.WellFormed f → ⊥
 other-count f n w = n w.counted
 
 -- "at most one objective", and before the constraints
@@ -191,5 +191,5 @@ late-objective f xs g ys e w =
     (right-part (D.GoodStatement (most_of f)) xs (D.goal g ∷ ys) (subst (AllOf (D.GoodStatement (most_of f))) e w.body)).0
 
 -- an objective with terms: without, no number of spaces before its `;` makes it one of the document
-pub no-empty-objective : (g : D.Objective) (n : ℕ) → D.objectiveText g ≡ minText ++ (D.spaces n ++ closed) → ⊥
+pub no-empty-objective : (g : D.Objective) (n : ℕ) → D.objective_text g ≡ min_text ++ (D.spaces n ++ closed) → ⊥
 no-empty-objective = goal-has-a-term

@@ -9,10 +9,10 @@ use borrow.Author.Tests.{leb-true, ltb-true}
 use lib.Dec.{leb, ltb}
 use lib.ListN.{length}
 use Rattle.definitions.specs.Lists.{AllOf}
-use Rattle.definitions.specs.Limits.{fileLimit, indexLimit, weightLimit, inI64}
+use Rattle.definitions.specs.Limits.{file_limit, index_limit, weight_limit, in_i64}
 use Rattle.definitions.specs.Bytes.{bytes}
 use Rattle.document.specs.Document as D
-use Rattle.document.specs.DocumentRead.{weightsOf, StatementWithin, WithinLimits}
+use Rattle.document.specs.DocumentRead.{weights_of, StatementWithin, WithinLimits}
 use Rattle.definitions.proofs.Truths.{both}
 use Rattle.definitions.proofs.Each.{both-parts}
 
@@ -49,18 +49,18 @@ good-number : (z : D.Integer) → all_small (z.first ∷ z.others) ≡ true → 
 good-number z e = record { digits = are-digits (z.first ∷ z.others) e }
 
 pub good-term : (t : D.WeightedTerm) → all_small (t.weight.first ∷ t.weight.others) ≡ true
-    → all_small (t.first ∷ t.others) ≡ true → leb 1 (D.variableOf t) ≡ true
-    → leb (D.variableOf t) 1_073_741_825 ≡ true → D.GoodTerm 1_073_741_825 t
+    → all_small (t.first ∷ t.others) ≡ true → leb 1 (D.variable_of t) ≡ true
+    → leb (D.variable_of t) 1_073_741_825 ≡ true → D.GoodTerm 1_073_741_825 t
 good-term t w v l h = record {
   weight = good-number t.weight w;
   digits = are-digits (t.first ∷ t.others) v;
-  low = leb-true 1 (D.variableOf t) l;
-  high = leb-true (D.variableOf t) 1_073_741_825 h;
+  low = leb-true 1 (D.variable_of t) l;
+  high = leb-true (D.variable_of t) 1_073_741_825 h;
 }
 
 pub good-file : (t : D.WeightedTerm) (ts : List D.WeightedTerm) (b : D.Integer) → AllOf (D.GoodTerm 1_073_741_825) (t ∷ ts)
     → all_small (b.first ∷ b.others) ≡ true → D.WellFormed (one-constraint [] t ts b)
-unfolding one-constraint number_of all_small D.digitsValue D.constraintCount
+unfolding one-constraint number_of all_small D.digits_value D.constraint_count
 good-file t ts b g e = record {
   variables = (good-number _ refl, refl);
   constraints = (good-number _ refl, refl);
@@ -74,19 +74,19 @@ good-file t ts b g e = record {
 -- ---- within the limits
 
 pub within-file : (cs : List (List ℕ)) (t : D.WeightedTerm)
-    → leb (length (D.fileText (one-constraint cs t [] (number_of 0 "")))) fileLimit ≡ true
-    → leb (weightsOf (t ∷ [])) weightLimit ≡ true → leb (D.variableOf t - 1) indexLimit ≡ true
+    → leb (length (D.file_text (one-constraint cs t [] (number_of 0 "")))) file_limit ≡ true
+    → leb (weights_of (t ∷ [])) weight_limit ≡ true → leb (D.variable_of t - 1) index_limit ≡ true
     → WithinLimits (one-constraint cs t [] (number_of 0 ""))
-unfolding one-constraint number_of D.statementsOf D.integerValue D.digitsValue inI64
+unfolding one-constraint number_of D.statements_of D.integer_value D.digits_value in_i64
 within-file cs t l w i = record {
-  file = leb-true _ fileLimit l;
+  file = leb-true _ file_limit l;
   statements = (
     tt,
     both-parts StatementWithin (map D.comment cs) _ (by cs) (
       (
         record {
-          weights = leb-true (weightsOf (t ∷ [])) weightLimit w;
-          indexes = (leb-true _ indexLimit i, tt);
+          weights = leb-true (weights_of (t ∷ [])) weight_limit w;
+          indexes = (leb-true _ index_limit i, tt);
         },
         refl,
       ),

@@ -7,30 +7,30 @@ use mathlib.Core.Path.{◌≡◌, ap}
 use mathlib.Core.List.{List}
 use borrow.Author.Tests.{le-leb}
 use lib.ListN.{length}
-use Rattle.definitions.specs.Limits.{fileLimit}
+use Rattle.definitions.specs.Limits.{file_limit}
 use Rattle.definitions.specs.Row.{Line}
 use Rattle.definitions.specs.Table.{accepted}
 use Rattle.definitions.specs.File.{lines_of, file}
 use Rattle.definitions.specs.Back.{Paired}
-use Rattle.document.specs.Document.{File, WellFormed, statementsOf, fileText}
-use Rattle.document.specs.DocumentRead.{fromOne, WithinLimits, Says}
+use Rattle.document.specs.Document.{File, WellFormed, statements_of, file_text}
+use Rattle.document.specs.DocumentRead.{from_one, WithinLimits, Says}
 use Rattle.document.proofs.DocumentStatements.{most_of, lines_from, document-statements, statements-say, fair-file}
 
 -- what is said of a file f of the document
 pub record DocumentRead (f : File) : Type 0 where
   pub lines : List Line
   -- the file is accepted
-  pub read : file fromOne (fileText f) ≡ accepted lines
+  pub read : file from_one (file_text f) ≡ accepted lines
   -- one line for each statement, in order, that says what the statement says
-  pub says : Paired (Says (fileText f)) (statementsOf f) lines
+  pub says : Paired (Says (file_text f)) (statements_of f) lines
 
 -- it holds of every file that is well formed and within the limits
 pub document-read : (f : File) → WellFormed f → WithinLimits f → DocumentRead f
-unfolding file fileText
+unfolding file file_text
 document-read f w l =
     let fair = fair-file f w l in
     record {
-      lines = lines_from 0 (statementsOf f);
-      read = rw (le-leb (length (fileText f)) fileLimit l.file) (ap lines_of (document-statements (most_of f) (statementsOf f) fair));
-      says = statements-say (most_of f) (statementsOf f) fair;
+      lines = lines_from 0 (statements_of f);
+      read = rw (le-leb (length (file_text f)) file_limit l.file) (ap lines_of (document-statements (most_of f) (statements_of f) fair));
+      says = statements-say (most_of f) (statements_of f) fair;
     }

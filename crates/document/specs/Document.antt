@@ -4,7 +4,7 @@
 use Rattle.std.specs.Prelude.{ℕ, zero, suc, ◌+◌, ◌*◌, ◌≤◌, ◌<◌, ◌≡◌, Bool, true, false, ◌&&◌, List, [], ◌∷◌, ◌++◌, map, length, ℤ, pos, neg_ℤ, ◌+ℤ◌, ◌*ℤ◌}
 use Rattle.std.specs.Int.Signed.{le_z}
 use Rattle.definitions.specs.Lists.{joined, AllOf}
-use Rattle.definitions.specs.Bytes.{bytes, lf, space, star, letterX}
+use Rattle.definitions.specs.Bytes.{bytes, lf, space, star, letter_x}
 
 unfoldable pub spaces : ℕ → List ℕ
 spaces zero = []
@@ -20,33 +20,33 @@ pub record Integer : Type 0 where
   pub first : ℕ
   pub others : List ℕ
 
-abbrev pub signText : Sign → List ℕ
-signText unsigned = []
-signText plus = bytes "+"
-signText minus = bytes "-"
+abbrev pub sign_text : Sign → List ℕ
+sign_text unsigned = []
+sign_text plus = bytes "+"
+sign_text minus = bytes "-"
 
 -- the byte 48 is `0`
-abbrev pub digitText : ℕ → ℕ
-digitText d = 48 + d
+abbrev pub digit_text : ℕ → ℕ
+digit_text d = 48 + d
 
-unfoldable pub digitsValue : ℕ → List ℕ → ℕ
-digitsValue n [] = n
-digitsValue n (d ∷ ds) = digitsValue (n * 10 + d) ds
+unfoldable pub digits_value : ℕ → List ℕ → ℕ
+digits_value n [] = n
+digits_value n (d ∷ ds) = digits_value (n * 10 + d) ds
 
-unfoldable pub integerText : Integer → List ℕ
-integerText z = signText z.sign ++ map digitText (z.first ∷ z.others)
+unfoldable pub integer_text : Integer → List ℕ
+integer_text z = sign_text z.sign ++ map digit_text (z.first ∷ z.others)
 
-abbrev pub signedBy : Sign → ℕ → ℤ
-signedBy unsigned n = pos n
-signedBy plus n = pos n
-signedBy minus n = neg_ℤ (pos n)
+abbrev pub signed_by : Sign → ℕ → ℤ
+signed_by unsigned n = pos n
+signed_by plus n = pos n
+signed_by minus n = neg_ℤ (pos n)
 
 -- the number that the digits alone are
-abbrev pub unsignedValue : Integer → ℕ
-unsignedValue z = digitsValue 0 (z.first ∷ z.others)
+abbrev pub unsigned_value : Integer → ℕ
+unsigned_value z = digits_value 0 (z.first ∷ z.others)
 
-unfoldable pub integerValue : Integer → ℤ
-integerValue z = signedBy z.sign (unsignedValue z)
+unfoldable pub integer_value : Integer → ℤ
+integer_value z = signed_by z.sign (unsigned_value z)
 
 abbrev pub IsDigit : ℕ → Type 0
 IsDigit d = d < 10
@@ -63,38 +63,38 @@ pub record WeightedTerm : Type 0 where
   pub others : List ℕ
   pub behind : ℕ
 
-unfoldable pub variableOf : WeightedTerm → ℕ
-variableOf t = digitsValue 0 (t.first ∷ t.others)
+unfoldable pub variable_of : WeightedTerm → ℕ
+variable_of t = digits_value 0 (t.first ∷ t.others)
 
-unfoldable pub termText : WeightedTerm → List ℕ
-termText t =
-    integerText t.weight ++ (spaces (suc t.gap) ++ (letterX ∷ (map digitText (t.first ∷ t.others) ++ spaces (suc t.behind))))
+unfoldable pub term_text : WeightedTerm → List ℕ
+term_text t =
+    integer_text t.weight ++ (spaces (suc t.gap) ++ (letter_x ∷ (map digit_text (t.first ∷ t.others) ++ spaces (suc t.behind))))
 
 pub record GoodTerm (most : ℕ) (t : WeightedTerm) : Type 0 where
   pub weight : GoodInteger t.weight
   pub digits : AllOf IsDigit (t.first ∷ t.others)
-  pub low : 1 ≤ variableOf t
-  pub high : variableOf t ≤ most
+  pub low : 1 ≤ variable_of t
+  pub high : variable_of t ≤ most
 
 -- ---- "Sum: one or more weighted terms."
 pub record Sum : Type 0 where
   pub first : WeightedTerm
   pub others : List WeightedTerm
 
-abbrev pub sumText : List WeightedTerm → List ℕ
-sumText ts = joined termText ts
+abbrev pub sum_text : List WeightedTerm → List ℕ
+sum_text ts = joined term_text ts
 
-abbrev pub termsOf : Sum → List WeightedTerm
-termsOf s = s.first ∷ s.others
+abbrev pub terms_of : Sum → List WeightedTerm
+terms_of s = s.first ∷ s.others
 
 -- ---- "Relational operators: `>=` and `=` only." "Constraint: a sum, a relational operator, zero or more spaces, an
 -- integer, zero or more spaces, `;`."
 pub data Relation : Type 0 where
   at_least equal : Relation
 
-abbrev pub relationText : Relation → List ℕ
-relationText at_least = bytes ">="
-relationText equal = bytes "="
+abbrev pub relation_text : Relation → List ℕ
+relation_text at_least = bytes ">="
+relation_text equal = bytes "="
 
 pub record Constraint : Type 0 where
   pub sum : Sum
@@ -107,13 +107,13 @@ pub record Constraint : Type 0 where
 abbrev pub ended : List ℕ
 ended = bytes ";\n"
 
-unfoldable pub constraintText : Constraint → List ℕ
-constraintText c =
-    sumText (termsOf c.sum)
-    ++ (relationText c.relation ++ (spaces c.gap ++ (integerText c.bound ++ (spaces c.behind ++ ended))))
+unfoldable pub constraint_text : Constraint → List ℕ
+constraint_text c =
+    sum_text (terms_of c.sum)
+    ++ (relation_text c.relation ++ (spaces c.gap ++ (integer_text c.bound ++ (spaces c.behind ++ ended))))
 
 pub record GoodConstraint (most : ℕ) (c : Constraint) : Type 0 where
-  pub terms : AllOf (GoodTerm most) (termsOf c.sum)
+  pub terms : AllOf (GoodTerm most) (terms_of c.sum)
   pub bound : GoodInteger c.bound
 
 -- ---- "Objective: `min:`, zero or more spaces, a sum, `;`."
@@ -121,12 +121,12 @@ pub record Objective : Type 0 where
   pub gap : ℕ
   pub sum : Sum
 
-unfoldable pub objectiveText : Objective → List ℕ
-objectiveText g = bytes "min:" ++ (spaces g.gap ++ (sumText (termsOf g.sum) ++ ended))
+unfoldable pub objective_text : Objective → List ℕ
+objective_text g = bytes "min:" ++ (spaces g.gap ++ (sum_text (terms_of g.sum) ++ ended))
 
 -- ---- "Comment: `*`, then any characters but the end of line, then the end of line."
-unfoldable pub commentText : List ℕ → List ℕ
-commentText t = star ∷ (t ++ (lf ∷ []))
+unfoldable pub comment_text : List ℕ → List ℕ
+comment_text t = star ∷ (t ++ (lf ∷ []))
 
 abbrev pub NoLineEnd : ℕ → Type 0
 NoLineEnd b = b ≡ lf → ⊥
@@ -137,13 +137,13 @@ pub data Statement : Type 0 where
   goal : Objective → Statement
   constraint : Constraint → Statement
 
-unfoldable pub statementText : Statement → List ℕ
-statementText (comment t) = commentText t
-statementText (goal g) = objectiveText g
-statementText (constraint c) = constraintText c
+unfoldable pub statement_text : Statement → List ℕ
+statement_text (comment t) = comment_text t
+statement_text (goal g) = objective_text g
+statement_text (constraint c) = constraint_text c
 
-abbrev pub statementsText : List Statement → List ℕ
-statementsText xs = joined statementText xs
+abbrev pub statements_text : List Statement → List ℕ
+statements_text xs = joined statement_text xs
 
 -- "The first line is a comment of the form `* #variable= N #constraint= M`: N is the number of variables, x1 to xN, and
 -- M the number of constraints that follow." The numbers are written as integers without a sign.
@@ -154,27 +154,27 @@ pub record File : Type 0 where
   pub objective : List Objective
   pub body : List Statement
 
-abbrev pub variableWords : List ℕ
-variableWords = bytes " #variable= "
+abbrev pub variable_words : List ℕ
+variable_words = bytes " #variable= "
 
-abbrev pub constraintWords : List ℕ
-constraintWords = bytes " #constraint= "
+abbrev pub constraint_words : List ℕ
+constraint_words = bytes " #constraint= "
 
-unfoldable pub headerOf : File → List ℕ
-headerOf f = variableWords ++ (integerText f.variables ++ (constraintWords ++ integerText f.constraints))
+unfoldable pub header_of : File → List ℕ
+header_of f = variable_words ++ (integer_text f.variables ++ (constraint_words ++ integer_text f.constraints))
 
-unfoldable pub statementsOf : File → List Statement
-statementsOf f = comment (headerOf f) ∷ (map comment f.comments ++ (map goal f.objective ++ f.body))
+unfoldable pub statements_of : File → List Statement
+statements_of f = comment (header_of f) ∷ (map comment f.comments ++ (map goal f.objective ++ f.body))
 
-unfoldable pub fileText : File → List ℕ
-fileText f = statementsText (statementsOf f)
+unfoldable pub file_text : File → List ℕ
+file_text f = statements_text (statements_of f)
 
 -- how many of the statements are constraints
-unfoldable pub constraintCount : List Statement → ℕ
-constraintCount [] = 0
-constraintCount (comment t ∷ xs) = constraintCount xs
-constraintCount (goal g ∷ xs) = constraintCount xs
-constraintCount (constraint c ∷ xs) = suc (constraintCount xs)
+unfoldable pub constraint_count : List Statement → ℕ
+constraint_count [] = 0
+constraint_count (comment t ∷ xs) = constraint_count xs
+constraint_count (goal g ∷ xs) = constraint_count xs
+constraint_count (constraint c ∷ xs) = suc (constraint_count xs)
 
 -- behind the objective: comments and constraints
 abbrev pub GoodStatement : ℕ → Statement → Type 0
@@ -185,11 +185,11 @@ GoodStatement most (constraint c) = GoodConstraint most c
 pub record WellFormed (f : File) : Type 0 where
   pub variables : GoodInteger f.variables × (f.variables.sign ≡ unsigned)
   pub constraints : GoodInteger f.constraints × (f.constraints.sign ≡ unsigned)
-  pub counted : unsignedValue f.constraints ≡ constraintCount f.body
+  pub counted : unsigned_value f.constraints ≡ constraint_count f.body
   pub comments : AllOf (AllOf NoLineEnd) f.comments
-  pub objective : AllOf (λ g. AllOf (GoodTerm (unsignedValue f.variables)) (termsOf g.sum)) f.objective
+  pub objective : AllOf (λ g. AllOf (GoodTerm (unsigned_value f.variables)) (terms_of g.sum)) f.objective
   pub single : length f.objective ≤ 1
-  pub body : AllOf (GoodStatement (unsignedValue f.variables)) f.body
+  pub body : AllOf (GoodStatement (unsigned_value f.variables)) f.body
 
 -- ---- "Meaning: variables take 0 or 1; ... a sum is the sum of weight times value, as whole numbers; `>=` and `=`
 -- compare that sum with the integer. A solution satisfies every constraint; an objective's value is its sum." An
@@ -198,16 +198,16 @@ abbrev pub bit : Bool → ℤ
 bit false = pos 0
 bit true = pos 1
 
-unfoldable pub sumValue : (ℕ → Bool) → List WeightedTerm → ℤ
-sumValue a [] = pos 0
-sumValue a (t ∷ ts) = (integerValue t.weight *ℤ bit (a (variableOf t))) +ℤ sumValue a ts
+unfoldable pub sum_value : (ℕ → Bool) → List WeightedTerm → ℤ
+sum_value a [] = pos 0
+sum_value a (t ∷ ts) = (integer_value t.weight *ℤ bit (a (variable_of t))) +ℤ sum_value a ts
 
 abbrev pub compared : Relation → ℤ → ℤ → Bool
 compared at_least s b = le_z b s
 compared equal s b = le_z s b && le_z b s
 
 unfoldable pub satisfied : (ℕ → Bool) → Constraint → Bool
-satisfied a c = compared c.relation (sumValue a (termsOf c.sum)) (integerValue c.bound)
+satisfied a c = compared c.relation (sum_value a (terms_of c.sum)) (integer_value c.bound)
 
-unfoldable pub objectiveValue : (ℕ → Bool) → Objective → ℤ
-objectiveValue a g = sumValue a (termsOf g.sum)
+unfoldable pub objective_value : (ℕ → Bool) → Objective → ℤ
+objective_value a g = sum_value a (terms_of g.sum)

@@ -3,34 +3,34 @@
 -- proofs/WrittenDocument.antt has the statement.
 use Rattle.std.specs.Prelude.{ℕ, ◌+◌, ◌≤◌, ◌≡◌, Bool, true, false, cond, List, [], ◌∷◌, ◌++◌, map, length, ◌+ℤ◌}
 use Rattle.definitions.specs.Lists.{joined, AllOf}
-use Rattle.definitions.specs.Bytes.{bytes, space, minText}
+use Rattle.definitions.specs.Bytes.{bytes, space, min_text}
 use Rattle.definitions.specs.Number.{decimal}
 use Rattle.definitions.specs.Literal.{index_of}
 use Rattle.definitions.specs.Row.{Term, Row}
 use Rattle.definitions.specs.declared.Kind.TheVariants.{Objective as objective}
 use Rattle.definitions.specs.Meaning.{holds, value_of}
-use Rattle.definitions.specs.Write.{printed, apart, closed, offsetText, Item, say, line, itemText}
-use Rattle.definitions.specs.Back.{Paired, rowsAsked, isGoal, offset_of}
+use Rattle.definitions.specs.Write.{printed, apart, closed, offset_text, Item, say, line, item_text}
+use Rattle.definitions.specs.Back.{Paired, rows_asked, is_goal, offset_of}
 use Rattle.document.specs.Document as D
-use Rattle.document.specs.DocumentRead.{byIndex}
+use Rattle.document.specs.DocumentRead.{by_index}
 use Rattle.definitions.specs.declared.Mode.{Mode}
 
 -- first index 1, no-negated mode
-abbrev pub forDocument : Mode
-forDocument = record { first = 1; plain = true }
+abbrev pub for_document : Mode
+for_document = record { first = 1; plain = true }
 
 -- ---- what is asked of the items: "comments, then at most one objective, then comments and constraints in any order"
 
 -- the constraints among what is written
-unfoldable pub constraintsAsked : List Item → List Row
-constraintsAsked [] = []
-constraintsAsked (say t ∷ is) = constraintsAsked is
-constraintsAsked (line r ∷ is) = cond (isGoal r.kind) (constraintsAsked is) (r ∷ constraintsAsked is)
+unfoldable pub constraints_asked : List Item → List Row
+constraints_asked [] = []
+constraints_asked (say t ∷ is) = constraints_asked is
+constraints_asked (line r ∷ is) = cond (is_goal r.kind) (constraints_asked is) (r ∷ constraints_asked is)
 
 -- "The first line is a comment of the form `* #variable= N #constraint= M`": the text behind the `*` and the space that
 -- the writer prints
-unfoldable pub headerSaid : ℕ → ℕ → List ℕ
-headerSaid n m = bytes "#variable= " ++ (decimal n ++ (bytes " #constraint= " ++ decimal m))
+unfoldable pub header_said : ℕ → ℕ → List ℕ
+header_said n m = bytes "#variable= " ++ (decimal n ++ (bytes " #constraint= " ++ decimal m))
 
 -- the file number of each variable of a row, from first index 1, is at most n
 abbrev pub UpTo : ℕ → Row → Type 0
@@ -44,7 +44,7 @@ pub record GoalWithTerms (r : Row) : Type 0 where
 -- a comment or a constraint
 abbrev pub NoGoal : Item → Type 0
 NoGoal (say t) = Unit {0}
-NoGoal (line r) = isGoal r.kind ≡ false
+NoGoal (line r) = is_goal r.kind ≡ false
 
 pub record InOrder (is : List Item) : Type 0 where
   pub variables : ℕ
@@ -52,9 +52,9 @@ pub record InOrder (is : List Item) : Type 0 where
   pub objectives : List Row
   pub body : List Item
   -- the header, comments, the objective, comments and constraints. "M the number of constraints that follow"
-  pub order : is ≡ say (headerSaid variables (length (constraintsAsked is))) ∷ (map say comments ++ (map line objectives ++ body))
+  pub order : is ≡ say (header_said variables (length (constraints_asked is))) ∷ (map say comments ++ (map line objectives ++ body))
   -- "N is the number of variables, x1 to xN"
-  pub named : AllOf (UpTo variables) (rowsAsked is)
+  pub named : AllOf (UpTo variables) (rows_asked is)
   pub goals : AllOf GoalWithTerms objectives
   pub single : length objectives ≤ 1
   pub behind : AllOf NoGoal body
@@ -63,31 +63,31 @@ pub record InOrder (is : List Item) : Type 0 where
 
 module _ {is : List Item} (o : InOrder is) (r : Row) where
   -- all that is written before it, and its own line but for the `;`
-  unfoldable pub beforeEnd : List ℕ
-  beforeEnd =
-      joined (itemText forDocument) (say (headerSaid o.variables (length (constraintsAsked is))) ∷ map say o.comments)
-      ++ (minText ++ joined (apart forDocument.first) (printed forDocument.plain r).terms)
+  unfoldable pub before_end : List ℕ
+  before_end =
+      joined (item_text for_document) (say (header_said o.variables (length (constraints_asked is))) ∷ map say o.comments)
+      ++ (min_text ++ joined (apart for_document.first) (printed for_document.plain r).terms)
 
   -- the `;` with its line ending, the line of an offset where there is one, and all that is written behind
-  unfoldable pub fromEnd : List ℕ
-  fromEnd = closed ++ (offsetText (offset_of forDocument r) ++ joined (itemText forDocument) o.body)
+  unfoldable pub from_end : List ℕ
+  from_end = closed ++ (offset_text (offset_of for_document r) ++ joined (item_text for_document) o.body)
 
 -- ---- the document's meaning
 
 -- the constraints among a document's statements
-unfoldable pub constraintsIn : List D.Statement → List D.Constraint
-constraintsIn [] = []
-constraintsIn (D.comment t ∷ xs) = constraintsIn xs
-constraintsIn (D.goal g ∷ xs) = constraintsIn xs
-constraintsIn (D.constraint c ∷ xs) = c ∷ constraintsIn xs
+unfoldable pub constraints_in : List D.Statement → List D.Constraint
+constraints_in [] = []
+constraints_in (D.comment t ∷ xs) = constraints_in xs
+constraints_in (D.goal g ∷ xs) = constraints_in xs
+constraints_in (D.constraint c ∷ xs) = c ∷ constraints_in xs
 
 -- satisfied exactly where the row holds
 abbrev pub SatisfiedAlike : Row → D.Constraint → Type 0
-SatisfiedAlike r c = (b : ℕ → Bool) → D.satisfied b c ≡ holds (byIndex b) r
+SatisfiedAlike r c = (b : ℕ → Bool) → D.satisfied b c ≡ holds (by_index b) r
 
 -- the value with the offset printed for it is the value of the row with its own offset
 abbrev pub ValuedAlike : Row → D.Objective → Type 0
-ValuedAlike r g = (b : ℕ → Bool) → D.objectiveValue b g +ℤ offset_of forDocument r ≡ value_of (byIndex b) r
+ValuedAlike r g = (b : ℕ → Bool) → D.objective_value b g +ℤ offset_of for_document r ≡ value_of (by_index b) r
 
 -- ---- the whole
 
@@ -97,12 +97,12 @@ pub record WrittenDocument {is : List Item} (o : InOrder is) (s : List ℕ) : Ty
   pub document : D.File
   pub good : D.WellFormed document
   -- without an objective its text is the written text
-  pub same : o.objectives ≡ [] → D.fileText document ≡ s
+  pub same : o.objectives ≡ [] → D.file_text document ≡ s
   -- with an objective the written text lacks one space, right before the `;` of the objective's line; before and behind
   -- that place the two are the same
   pub lacks : (r : Row) → o.objectives ≡ r ∷ []
-      → (s ≡ beforeEnd o r ++ fromEnd o r) × (D.fileText document ≡ beforeEnd o r ++ (space ∷ fromEnd o r))
+      → (s ≡ before_end o r ++ from_end o r) × (D.file_text document ≡ before_end o r ++ (space ∷ from_end o r))
   -- one constraint of the document for each constraint asked for, in order, satisfied exactly where that holds
-  pub constraints : Paired SatisfiedAlike (constraintsAsked is) (constraintsIn document.body)
+  pub constraints : Paired SatisfiedAlike (constraints_asked is) (constraints_in document.body)
   -- its objective is the one asked for: the document's value and the offset printed for it make the value asked for
   pub objectives : Paired ValuedAlike o.objectives document.objective

@@ -8,8 +8,8 @@ use lib.IntN.{ℤ, ◌+ℤ◌}
 use Rattle.definitions.specs.Literal.{index_of}
 use Rattle.definitions.specs.Row.{Term, Row}
 use Rattle.definitions.specs.Table.{Table, accepted}
-use Rattle.definitions.specs.Meaning.{Assignment, isTrue, sum_of, holdsBy, holds, value_of, assigned, isKnown}
-use Rattle.definitions.specs.Evaluate.{constraint, goal, covered, evaluatingKnown}
+use Rattle.definitions.specs.Meaning.{Assignment, is_true, sum_of, holds_by, holds, value_of, assigned, is_known}
+use Rattle.definitions.specs.Evaluate.{constraint, goal, covered, evaluating_known}
 use Rattle.definitions.proofs.Truths.{both}
 use Rattle.assigned.specs.WordsSay.{looked}
 use Rattle.evaluator.proofs.Meant.{Holds, ConstraintMeant, ObjectiveMeant, known-constraint, known-objective}
@@ -18,7 +18,7 @@ use Rattle.evaluator.proofs.Meant.{Holds, ConstraintMeant, ObjectiveMeant, known
 
 module _ (has : ℕ → Bool) (a b : Assignment) (agree : (v : ℕ) → has v ≡ true → b v ≡ a v) where
   sum_agrees : (ts : List Term) → covered has ts ≡ true → sum_of a ts ≡ sum_of b ts
-  unfolding covered sum_of isTrue
+  unfolding covered sum_of is_true
   sum_agrees [] e = refl
   sum_agrees (t ∷ ts) e =
       let v = index_of t.code in
@@ -35,7 +35,7 @@ module _ (has : ℕ → Bool) (a b : Assignment) (agree : (v : ℕ) → has v �
         constrains = m.constrains;
         covers = m.covers;
         sum_is = m.sum_is ∙ e;
-        holds-is = m.holds-is ∙ ap (λ (s : ℤ). holdsBy r.kind s r.bound) e;
+        holds-is = m.holds-is ∙ ap (λ (s : ℤ). holds_by r.kind s r.bound) e;
       }
 
   objective-agrees : (t : Table) (i : ℕ) (value : ℤ) → ObjectiveMeant t i has a value → ObjectiveMeant t i has b value
@@ -57,15 +57,15 @@ pub held_one : (t : Table) (i : ℕ) (r r' : Row) → Holds t i r → Holds t i 
 held_one t i r r' p q = let e = sym p.line ∙ q.line in cc
 
 module _ (t : Table) (i : ℕ) (ws ks : List ℕ) (b : Assignment)
-    (agree : (v : ℕ) → isKnown (looked ws) (looked ks) v ≡ true → b v ≡ assigned (looked ws) v) where
-  pub agree-constraint : (sum : ℤ) (h : Bool) (ones : ℕ) → evaluatingKnown t i ws ks ≡ accepted (constraint sum h ones)
-      → ConstraintMeant t i (isKnown (looked ws) (looked ks)) b sum h
+    (agree : (v : ℕ) → is_known (looked ws) (looked ks) v ≡ true → b v ≡ assigned (looked ws) v) where
+  pub agree-constraint : (sum : ℤ) (h : Bool) (ones : ℕ) → evaluating_known t i ws ks ≡ accepted (constraint sum h ones)
+      → ConstraintMeant t i (is_known (looked ws) (looked ks)) b sum h
   agree-constraint sum h ones e =
-      constraint-agrees (isKnown (looked ws) (looked ks)) (assigned (looked ws)) b agree t i sum h
+      constraint-agrees (is_known (looked ws) (looked ks)) (assigned (looked ws)) b agree t i sum h
       (known-constraint t i ws ks sum h ones e).0
 
-  pub agree-objective : (value : ℤ) (ones : ℕ) → evaluatingKnown t i ws ks ≡ accepted (goal value ones)
-      → ObjectiveMeant t i (isKnown (looked ws) (looked ks)) b value
+  pub agree-objective : (value : ℤ) (ones : ℕ) → evaluating_known t i ws ks ≡ accepted (goal value ones)
+      → ObjectiveMeant t i (is_known (looked ws) (looked ks)) b value
   agree-objective value ones e =
-      objective-agrees (isKnown (looked ws) (looked ks)) (assigned (looked ws)) b agree t i value
+      objective-agrees (is_known (looked ws) (looked ks)) (assigned (looked ws)) b agree t i value
       (known-objective t i ws ks value ones e).0

@@ -10,15 +10,15 @@ use native.Mathlib.Omega.{arith}
 use native.Mathlib.Decide.{dec_lt}
 use lib.Dec.{leb}
 use lib.IntN.{ℤ}
-use Rattle.definitions.specs.Limits.{weightLimit, inI64}
+use Rattle.definitions.specs.Limits.{weight_limit, in_i64}
 use Rattle.definitions.specs.Refusal.{Checked, refuse, accept}
 use Rattle.definitions.specs.Row.{Row, Line, comment, row, sizes}
 use Rattle.definitions.specs.declared.Kind.{Kind}
 use Rattle.definitions.specs.declared.Kind.TheVariants.{AtLeast as at_least, AtMost as at_most, Equal as equal, Objective as objective}
-use Rattle.definitions.specs.Table.{Table, table, rowRoom, accepted, lineIn, and_then}
-use Rattle.definitions.specs.Meaning.{Assignment, sum_of, holds, value_of, assigned, onesOf, isKnown}
-use Rattle.definitions.specs.Evaluate.{Evaluated as Found, constraint, goal, covered, foundBy, found, foundIn, onPlace}
-use Rattle.definitions.specs.Evaluate.{evaluatingBy, within, evaluating, knownOnes, evaluatingKnown}
+use Rattle.definitions.specs.Table.{Table, table, row_room, accepted, line_in, and_then}
+use Rattle.definitions.specs.Meaning.{Assignment, sum_of, holds, value_of, assigned, ones_of, is_known}
+use Rattle.definitions.specs.Evaluate.{Evaluated as Found, constraint, goal, covered, found_by, found, found_in, on_place}
+use Rattle.definitions.specs.Evaluate.{evaluating_by, within, evaluating, known_ones, evaluating_known}
 use Rattle.columns.proofs.EntryLaws.{entry_at, entries_from}
 use Rattle.verdicts.specs.declared.Evaluated.TheVariants.{Constraint, Objective}
 use Rattle.assigned.specs.WordsSay.{looked}
@@ -28,8 +28,8 @@ use Rattle.evaluator.proofs.evaluate_known.Reads as evaluate-known
 
 -- row i of the table t is r
 pub record Holds (t : Table) (i : ℕ) (r : Row) : Type 0 where
-  pub there : i < rowRoom t
-  pub line : lineIn t (entry_at t i) ≡ accept (row r)
+  pub there : i < row_room t
+  pub line : line_in t (entry_at t i) ≡ accept (row r)
 
 -- under the assignment a, which has a value for the variables that `has` holds for
 pub record ConstraintMeant (t : Table) (i : ℕ) (has : ℕ → Bool) (a : Assignment) (sum : ℤ) (h : Bool) : Type 0 where
@@ -52,18 +52,18 @@ pub record ObjectiveMeant (t : Table) (i : ℕ) (has : ℕ → Bool) (a : Assign
 no-refusal {ℓ} : {X : Type ℓ} {A : Type 0} (n : ℕ) (x : A) → refuse n ≡ accept x → X
 no-refusal n x e = let z : ◌≡◌ {A = ℕ} 0 1 = cc in absurd (omega arith)
 
-placed : (i : ℕ) (c : Checked Found) (x : Found) → onPlace i c ≡ accepted x → c ≡ accept x
+placed : (i : ℕ) (c : Checked Found) (x : Found) → on_place i c ≡ accepted x → c ≡ accept x
 placed i (refuse n) x e = let z : ◌≡◌ {A = ℕ} 0 1 = cc in absurd (omega arith)
 placed i (accept y) x e = cc
 
 module _ (has : ℕ → Bool) (a : Assignment) (n : ℕ) where
   -- a row that is evaluated is not too large, and each of its variables has a value
-  found-by : (r : Row) (x : Found) → found has a n r ≡ accept x → (covered has r.terms ≡ true) × (foundBy r.kind a n r ≡ accept x)
+  found-by : (r : Row) (x : Found) → found has a n r ≡ accept x → (covered has r.terms ≡ true) × (found_by r.kind a n r ≡ accept x)
   unfolding found
-  found-by r x e = cases (leb (sizes r.terms) weightLimit) (covered has r.terms) e
+  found-by r x e = cases (leb (sizes r.terms) weight_limit) (covered has r.terms) e
     where
-      cases : (b d : Bool) → cond b (cond d (foundBy r.kind a n r) (refuse 12)) (refuse 8) ≡ accept x
-          → (d ≡ true) × (foundBy r.kind a n r ≡ accept x)
+      cases : (b d : Bool) → cond b (cond d (found_by r.kind a n r) (refuse 12)) (refuse 8) ≡ accept x
+          → (d ≡ true) × (found_by r.kind a n r ≡ accept x)
       cases true true e = (refl, e)
       cases true false e = no-refusal 12 x e
       cases false d e = no-refusal 8 x e
@@ -73,10 +73,10 @@ module _ (has : ℕ → Bool) (a : Assignment) (n : ℕ) where
     held : Row
     is_held : Holds t i held
     covers : covered has held.terms ≡ true
-    is_found : foundBy held.kind a n held ≡ accept x
+    is_found : found_by held.kind a n held ≡ accept x
 
-  line-entered : (t : Table) (i : ℕ) (x : Found) → i < rowRoom t → (l : Checked Line) → lineIn t (entry_at t i) ≡ l
-      → and_then l (foundIn has a n) ≡ accept x
+  line-entered : (t : Table) (i : ℕ) (x : Found) → i < row_room t → (l : Checked Line) → line_in t (entry_at t i) ≡ l
+      → and_then l (found_in has a n) ≡ accept x
       → Entered t i x
   line-entered t i x h (refuse m) q e = no-refusal m x e
   line-entered t i x h (accept (comment f m b)) q e = no-refusal 11 x e
@@ -84,23 +84,23 @@ module _ (has : ℕ → Bool) (a : Assignment) (n : ℕ) where
       let p = found-by r x e in
       record { held = r; is_held = record { there = h; line = q }; covers = p.0; is_found = p.1 }
 
-  entered : (t : Table) (i : ℕ) (x : Found) → evaluatingBy has a n t i ≡ accepted x → Entered t i x
-  unfolding evaluatingBy
-  entered t i x e = cases (dec_lt i (rowRoom t))
+  entered : (t : Table) (i : ℕ) (x : Found) → evaluating_by has a n t i ≡ accepted x → Entered t i x
+  unfolding evaluating_by
+  entered t i x e = cases (dec_lt i (row_room t))
     where
-      cases : Dec (i < rowRoom t) → Entered t i x
+      cases : Dec (i < row_room t) → Entered t i x
       cases (yes h) =
-          line-entered t i x h (lineIn t (entry_at t i)) refl
-          (placed i (and_then (lineIn t (entry_at t i)) (foundIn has a n)) x (rw (entries_from t i h) at e))
+          line-entered t i x h (line_in t (entry_at t i)) refl
+          (placed i (and_then (line_in t (entry_at t i)) (found_in has a n)) x (rw (entries_from t i h) at e))
       cases (no h) = let q = sym (row-missing t i has a n (omega arith)) ∙ e in let z : ◌≡◌ {A = ℕ} 0 1 = cc in absurd (omega arith)
 
   module _ (r : Row) where
-    constraint-parts : (sum : ℤ) (h : Bool) (ones : ℕ) (k : Kind) → foundBy k a n r ≡ accept (constraint sum h ones)
+    constraint-parts : (sum : ℤ) (h : Bool) (ones : ℕ) (k : Kind) → found_by k a n r ≡ accept (constraint sum h ones)
         → (k ≡ objective → ⊥) × (sum ≡ sum_of a r.terms) × (h ≡ holds a r) × (ones ≡ n)
     constraint-parts sum h ones at_least e = ((λ q. let z : ◌≡◌ {A = ℕ} 0 1 = cc in omega arith), (cc), (cc), (cc))
     constraint-parts sum h ones at_most e = ((λ q. let z : ◌≡◌ {A = ℕ} 0 1 = cc in omega arith), (cc), (cc), (cc))
     constraint-parts sum h ones equal e = ((λ q. let z : ◌≡◌ {A = ℕ} 0 1 = cc in omega arith), (cc), (cc), (cc))
-    constraint-parts sum h ones objective e = absurd (none (inI64 (value_of a r)) e)
+    constraint-parts sum h ones objective e = absurd (none (in_i64 (value_of a r)) e)
       where
         none : (b : Bool) → cond b (accept (goal (value_of a r) n)) (refuse 8) ≡ accept (constraint sum h ones) → ⊥
         none true e = let z : ◌≡◌ {A = ℕ} 0 1 = cc in omega arith
@@ -109,12 +109,12 @@ module _ (has : ℕ → Bool) (a : Assignment) (n : ℕ) where
     no-constraint {ℓ} : {X : Type ℓ} (sum value : ℤ) (h : Bool) (ones m : ℕ) → accept (constraint sum h ones) ≡ accept (goal value m) → X
     no-constraint sum value h ones m e = let z : ◌≡◌ {A = ℕ} 0 1 = cc in absurd (omega arith)
 
-    objective-parts : (value : ℤ) (ones : ℕ) (k : Kind) → foundBy k a n r ≡ accept (goal value ones)
+    objective-parts : (value : ℤ) (ones : ℕ) (k : Kind) → found_by k a n r ≡ accept (goal value ones)
         → (k ≡ objective) × (value ≡ value_of a r) × (ones ≡ n)
     objective-parts value ones at_least e = no-constraint _ _ _ _ _ e
     objective-parts value ones at_most e = no-constraint _ _ _ _ _ e
     objective-parts value ones equal e = no-constraint _ _ _ _ _ e
-    objective-parts value ones objective e = (refl, (cases (inI64 (value_of a r)) e).0, (cases (inI64 (value_of a r)) e).1)
+    objective-parts value ones objective e = (refl, (cases (in_i64 (value_of a r)) e).0, (cases (in_i64 (value_of a r)) e).1)
       where
         cases : (b : Bool) → cond b (accept (goal (value_of a r) n)) (refuse 8) ≡ accept (goal value ones)
             → (value ≡ value_of a r) × (ones ≡ n)
@@ -122,14 +122,14 @@ module _ (has : ℕ → Bool) (a : Assignment) (n : ℕ) where
         cases false e = no-refusal 8 (goal value ones) e
 
   module _ (t : Table) (i : ℕ) where
-    pub by-constraint : (sum : ℤ) (h : Bool) (ones : ℕ) → evaluatingBy has a n t i ≡ accepted (constraint sum h ones)
+    pub by-constraint : (sum : ℤ) (h : Bool) (ones : ℕ) → evaluating_by has a n t i ≡ accepted (constraint sum h ones)
         → ConstraintMeant t i has a sum h × (ones ≡ n)
     by-constraint sum h ones e =
         let m = entered t i (constraint sum h ones) e in
         let p = constraint-parts m.held sum h ones m.held.kind m.is_found in
         (record { held = m.held; is_held = m.is_held; constrains = p.0; covers = m.covers; sum_is = p.1; holds-is = p.2 }, p.3)
 
-    pub by-objective : (value : ℤ) (ones : ℕ) → evaluatingBy has a n t i ≡ accepted (goal value ones)
+    pub by-objective : (value : ℤ) (ones : ℕ) → evaluating_by has a n t i ≡ accepted (goal value ones)
         → ObjectiveMeant t i has a value × (ones ≡ n)
     by-objective value ones e =
         let m = entered t i (goal value ones) e in
@@ -140,29 +140,29 @@ module _ (has : ℕ → Bool) (a : Assignment) (n : ℕ) where
 
 module _ (t : Table) (i : ℕ) (ws : List ℕ) where
   pub evaluating-constraint : (sum : ℤ) (h : Bool) (ones : ℕ) → evaluating t i ws ≡ accepted (constraint sum h ones)
-      → ConstraintMeant t i (within (looked ws)) (assigned (looked ws)) sum h × (ones ≡ onesOf (looked ws))
+      → ConstraintMeant t i (within (looked ws)) (assigned (looked ws)) sum h × (ones ≡ ones_of (looked ws))
   unfolding evaluating looked
-  evaluating-constraint sum h ones e = by-constraint (within (looked ws)) (assigned (looked ws)) (onesOf (looked ws)) t i sum h ones e
+  evaluating-constraint sum h ones e = by-constraint (within (looked ws)) (assigned (looked ws)) (ones_of (looked ws)) t i sum h ones e
 
   pub evaluating-objective : (value : ℤ) (ones : ℕ) → evaluating t i ws ≡ accepted (goal value ones)
-      → ObjectiveMeant t i (within (looked ws)) (assigned (looked ws)) value × (ones ≡ onesOf (looked ws))
+      → ObjectiveMeant t i (within (looked ws)) (assigned (looked ws)) value × (ones ≡ ones_of (looked ws))
   unfolding evaluating looked
-  evaluating-objective value ones e = by-objective (within (looked ws)) (assigned (looked ws)) (onesOf (looked ws)) t i value ones e
+  evaluating-objective value ones e = by-objective (within (looked ws)) (assigned (looked ws)) (ones_of (looked ws)) t i value ones e
 
 -- ---- a second row says which variables are known
 
 module _ (t : Table) (i : ℕ) (ws ks : List ℕ) where
-  pub known-constraint : (sum : ℤ) (h : Bool) (ones : ℕ) → evaluatingKnown t i ws ks ≡ accepted (constraint sum h ones)
-      → ConstraintMeant t i (isKnown (looked ws) (looked ks)) (assigned (looked ws)) sum h × (ones ≡ knownOnes (looked ws) (looked ks))
-  unfolding evaluatingKnown looked
+  pub known-constraint : (sum : ℤ) (h : Bool) (ones : ℕ) → evaluating_known t i ws ks ≡ accepted (constraint sum h ones)
+      → ConstraintMeant t i (is_known (looked ws) (looked ks)) (assigned (looked ws)) sum h × (ones ≡ known_ones (looked ws) (looked ks))
+  unfolding evaluating_known looked
   known-constraint sum h ones e =
-      by-constraint (isKnown (looked ws) (looked ks)) (assigned (looked ws)) (knownOnes (looked ws) (looked ks)) t i sum h ones e
+      by-constraint (is_known (looked ws) (looked ks)) (assigned (looked ws)) (known_ones (looked ws) (looked ks)) t i sum h ones e
 
-  pub known-objective : (value : ℤ) (ones : ℕ) → evaluatingKnown t i ws ks ≡ accepted (goal value ones)
-      → ObjectiveMeant t i (isKnown (looked ws) (looked ks)) (assigned (looked ws)) value × (ones ≡ knownOnes (looked ws) (looked ks))
-  unfolding evaluatingKnown looked
+  pub known-objective : (value : ℤ) (ones : ℕ) → evaluating_known t i ws ks ≡ accepted (goal value ones)
+      → ObjectiveMeant t i (is_known (looked ws) (looked ks)) (assigned (looked ws)) value × (ones ≡ known_ones (looked ws) (looked ks))
+  unfolding evaluating_known looked
   known-objective value ones e =
-      by-objective (isKnown (looked ws) (looked ks)) (assigned (looked ws)) (knownOnes (looked ws) (looked ks)) t i value ones e
+      by-objective (is_known (looked ws) (looked ks)) (assigned (looked ws)) (known_ones (looked ws) (looked ks)) t i value ones e
 
 -- ---- of the code: two answers of each function, with what it was lent
 
@@ -170,29 +170,29 @@ pub evaluate-constraint : (κs : _) (a : _) (sum : ℤ) (h : Bool) (ones : ℕ) 
     → ConstraintMeant
     (table a.0.now a.1.0.now a.1.1.0.now a.1.1.1.0.now a.1.1.1.1.0.now a.1.1.1.1.1.0.now)
     a.1.1.1.1.1.1.0 (within (looked a.1.1.1.1.1.1.1.0.now)) (assigned (looked a.1.1.1.1.1.1.1.0.now)) sum h
-    × (ones ≡ onesOf (looked a.1.1.1.1.1.1.1.0.now))
+    × (ones ≡ ones_of (looked a.1.1.1.1.1.1.1.0.now))
 evaluate-constraint κs a sum h ones s p = evaluating-constraint _ _ _ sum h ones (sym p)
 
 pub evaluate-objective : (κs : _) (a : _) (value : ℤ) (ones : ℕ) (s : _) → evaluate.Post κs a (Objective value ones) s
     → ObjectiveMeant
     (table a.0.now a.1.0.now a.1.1.0.now a.1.1.1.0.now a.1.1.1.1.0.now a.1.1.1.1.1.0.now)
     a.1.1.1.1.1.1.0 (within (looked a.1.1.1.1.1.1.1.0.now)) (assigned (looked a.1.1.1.1.1.1.1.0.now)) value
-    × (ones ≡ onesOf (looked a.1.1.1.1.1.1.1.0.now))
+    × (ones ≡ ones_of (looked a.1.1.1.1.1.1.1.0.now))
 evaluate-objective κs a value ones s p = evaluating-objective _ _ _ value ones (sym p)
 
 pub evaluate-known-constraint : (κs : _) (a : _) (sum : ℤ) (h : Bool) (ones : ℕ) (s : _)
     → evaluate-known.Post κs a (Constraint sum h ones) s
     → ConstraintMeant
     (table a.0.now a.1.0.now a.1.1.0.now a.1.1.1.0.now a.1.1.1.1.0.now a.1.1.1.1.1.0.now)
-    a.1.1.1.1.1.1.0 (isKnown (looked a.1.1.1.1.1.1.1.0.now) (looked a.1.1.1.1.1.1.1.1.0.now))
+    a.1.1.1.1.1.1.0 (is_known (looked a.1.1.1.1.1.1.1.0.now) (looked a.1.1.1.1.1.1.1.1.0.now))
     (assigned (looked a.1.1.1.1.1.1.1.0.now)) sum h
-    × (ones ≡ knownOnes (looked a.1.1.1.1.1.1.1.0.now) (looked a.1.1.1.1.1.1.1.1.0.now))
+    × (ones ≡ known_ones (looked a.1.1.1.1.1.1.1.0.now) (looked a.1.1.1.1.1.1.1.1.0.now))
 evaluate-known-constraint κs a sum h ones s p = known-constraint _ _ _ _ sum h ones (sym p)
 
 pub evaluate-known-objective : (κs : _) (a : _) (value : ℤ) (ones : ℕ) (s : _) → evaluate-known.Post κs a (Objective value ones) s
     → ObjectiveMeant
     (table a.0.now a.1.0.now a.1.1.0.now a.1.1.1.0.now a.1.1.1.1.0.now a.1.1.1.1.1.0.now)
-    a.1.1.1.1.1.1.0 (isKnown (looked a.1.1.1.1.1.1.1.0.now) (looked a.1.1.1.1.1.1.1.1.0.now))
+    a.1.1.1.1.1.1.0 (is_known (looked a.1.1.1.1.1.1.1.0.now) (looked a.1.1.1.1.1.1.1.1.0.now))
     (assigned (looked a.1.1.1.1.1.1.1.0.now)) value
-    × (ones ≡ knownOnes (looked a.1.1.1.1.1.1.1.0.now) (looked a.1.1.1.1.1.1.1.1.0.now))
+    × (ones ≡ known_ones (looked a.1.1.1.1.1.1.1.0.now) (looked a.1.1.1.1.1.1.1.1.0.now))
 evaluate-known-objective κs a value ones s p = known-objective _ _ _ _ value ones (sym p)

@@ -2,7 +2,7 @@
 ghost use Rattle.std.specs.Prelude.{◌≡◌};
 ghost use Rattle.definitions.specs.Table.{table};
 ghost use Rattle.definitions.specs.Evaluate.{judging};
-ghost use Rattle.verdicts.specs.Said.{saidEvaluated};
+ghost use Rattle.verdicts.specs.Said.{said_evaluated};
 
 use verdicts::Evaluated;
 
@@ -19,7 +19,7 @@ pub fn judge(
     values: &[u64],
     known: &[u64],
 ) -> Evaluated
-    ensures { saidEvaluated result ≡ judging (table kinds.now firsts.now counts.now bounds.now weights.now literals.now) row values.now known.now }
+    ensures { said_evaluated result ≡ judging (table kinds.now firsts.now counts.now bounds.now weights.now literals.now) row values.now known.now }
 {
     rows::evaluate_row(
         kinds, firsts, counts, bounds, weights, literals, row, values, known, false, 0,

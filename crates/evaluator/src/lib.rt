@@ -5,8 +5,8 @@ mod judging;
 
 ghost use Rattle.std.specs.Prelude.{◌≡◌};
 ghost use Rattle.definitions.specs.Table.{table};
-ghost use Rattle.definitions.specs.Evaluate.{evaluating, evaluatingKnown};
-ghost use Rattle.verdicts.specs.Said.{saidEvaluated};
+ghost use Rattle.definitions.specs.Evaluate.{evaluating, evaluating_known};
+ghost use Rattle.verdicts.specs.Said.{said_evaluated};
 
 pub use judging::judge;
 use verdicts::Evaluated;
@@ -22,7 +22,7 @@ pub fn evaluate(
     row: usize,
     words: &[u64],
 ) -> Evaluated
-    ensures { saidEvaluated result ≡ evaluating (table kinds.now firsts.now counts.now bounds.now weights.now literals.now) row words.now }
+    ensures { said_evaluated result ≡ evaluating (table kinds.now firsts.now counts.now bounds.now weights.now literals.now) row words.now }
 {
     let ones = assigned::ones_of(words, words, true);
     rows::evaluate_row(
@@ -42,7 +42,7 @@ pub fn evaluate_known(
     values: &[u64],
     known: &[u64],
 ) -> Evaluated
-    ensures { saidEvaluated result ≡ evaluatingKnown (table kinds.now firsts.now counts.now bounds.now weights.now literals.now) row values.now known.now }
+    ensures { said_evaluated result ≡ evaluating_known (table kinds.now firsts.now counts.now bounds.now weights.now literals.now) row values.now known.now }
 {
     let ones = assigned::ones_of(values, known, false);
     rows::evaluate_row(

@@ -2,11 +2,11 @@
 use Rattle.std.specs.Prelude.{ℕ, ◌≡◌, List, ℤ}
 use Rattle.definitions.specs.Row.{Term}
 use Rattle.definitions.specs.Table.{Outcome}
-use Rattle.definitions.specs.Stepping.{termsKept, termsCounted}
-use Rattle.definitions.specs.Answers.{saidLength}
+use Rattle.definitions.specs.Stepping.{terms_kept, terms_counted}
+use Rattle.definitions.specs.Answers.{said_length}
 use Rattle.sums.specs.Walked.{TermsFilled}
 use Rattle.definitions.specs.declared.Length.{Length}
 
 pub record FillsTerms (x : Outcome (List Term)) (w₀ : List ℤ) (l₀ : List ℕ) (r : Length) (w : List ℤ) (l : List ℕ) : Type 0 where
-  pub answer : saidLength r ≡ termsCounted x
-  pub filled : TermsFilled (termsKept x) w₀ l₀ w l
+  pub answer : said_length r ≡ terms_counted x
+  pub filled : TermsFilled (terms_kept x) w₀ l₀ w l

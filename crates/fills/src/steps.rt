@@ -1,5 +1,5 @@
 // The terms of the statement at an offset of a file, into lent columns. Assumes nothing.
-ghost use Rattle.definitions.specs.Stepping.{termsAtStep};
+ghost use Rattle.definitions.specs.Stepping.{terms_at_step};
 ghost use Rattle.fills.specs.FillsTerms.{FillsTerms};
 
 use definitions::{Length, Options};
@@ -13,7 +13,7 @@ pub fn fill_at(
     weights: &mut [i64],
     literals: &mut [u32],
 ) -> Length
-    ensures { FillsTerms (termsAtStep options file.now at weights.old literals.old) weights.old literals.old result weights.new literals.new }
+    ensures { FillsTerms (terms_at_step options file.now at weights.old literals.old) weights.old literals.old result weights.new literals.new }
 {
     match walker::step_at(file, options, at) {
         Stepped::End => Length::Is(0),

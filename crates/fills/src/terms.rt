@@ -1,7 +1,7 @@
 // The terms of the statement at the front of a text: it is checked and its terms are counted; then they are filled.
 // Assumes nothing.
 ghost use Rattle.definitions.specs.Text.{statement};
-ghost use Rattle.definitions.specs.Stepping.{steppedBy, termsBy, columnsRoom};
+ghost use Rattle.definitions.specs.Stepping.{stepped_by, terms_by, columns_room};
 ghost use Rattle.fills.specs.FillsTerms.{FillsTerms};
 
 use definitions::{Length, Options, Refusal};
@@ -10,7 +10,7 @@ use statements::StatementRead;
 // The statement at the front of s, as `opb_data` reads it, a refusal's place counted from there; 10 where its terms do
 // not fit; nothing at the end.
 pub fn fill_terms(s: &[u8], options: Options, weights: &mut [i64], literals: &mut [u32]) -> Length
-    ensures { FillsTerms (termsBy (columnsRoom weights.old literals.old) (steppedBy 0 (statement options s.now))) weights.old literals.old result weights.new literals.new }
+    ensures { FillsTerms (terms_by (columns_room weights.old literals.old) (stepped_by 0 (statement options s.now))) weights.old literals.old result weights.new literals.new }
 {
     match statements::opb_data(s, options) {
         StatementRead::End => Length::Is(0),

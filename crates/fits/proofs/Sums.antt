@@ -8,7 +8,7 @@ use lib.IntN.{ℤ, pos, ◌+ℤ◌, ◌-ℤ◌}
 use lib.Signed.{lt_z, le_z}
 use mir.Syntax.{w64}
 use mir.Val.{SFits}
-use Rattle.definitions.specs.Limits.{least, greatest, inI64}
+use Rattle.definitions.specs.Limits.{least, greatest, in_i64}
 use Rattle.definitions.proofs.Whole.{up, dn, one_side, up_pos, dn-pos, up-negsuc, dn-negsuc, sum_is, diff_is, lt-is, ge-is, is_le}
 use Rattle.definitions.proofs.Whole.{is_gt, in-up, in-dn, is-in, in-true, over-up, over-dn}
 
@@ -44,10 +44,10 @@ module _ (x y : ℤ) (f : SFits w64 x) (g : SFits w64 y) where
         ) in
         is-in (least -ℤ y) h.0 h.1
 
-    pub low-test : le_z (least -ℤ y) x ≡ inI64 (x +ℤ y)
+    pub low-test : le_z (least -ℤ y) x ≡ in_i64 (x +ℤ y)
     low-test = cases (dec_le (up (least -ℤ y) + dn x) (up x + dn (least -ℤ y)))
       where
-        cases : Dec (up (least -ℤ y) + dn x ≤ up x + dn (least -ℤ y)) → le_z (least -ℤ y) x ≡ inI64 (x +ℤ y)
+        cases : Dec (up (least -ℤ y) + dn x ≤ up x + dn (least -ℤ y)) → le_z (least -ℤ y) x ≡ in_i64 (x +ℤ y)
         cases (yes h) =
             is_le (least -ℤ y) x h
             ∙ sym (in-true (x +ℤ y)
@@ -76,10 +76,10 @@ module _ (x y : ℤ) (f : SFits w64 x) (g : SFits w64 y) where
         ) in
         is-in (greatest -ℤ y) h.0 h.1
 
-    pub high-test : le_z x (greatest -ℤ y) ≡ inI64 (x +ℤ y)
+    pub high-test : le_z x (greatest -ℤ y) ≡ in_i64 (x +ℤ y)
     high-test = cases (dec_le (up x + dn (greatest -ℤ y)) (up (greatest -ℤ y) + dn x))
       where
-        cases : Dec (up x + dn (greatest -ℤ y) ≤ up (greatest -ℤ y) + dn x) → le_z x (greatest -ℤ y) ≡ inI64 (x +ℤ y)
+        cases : Dec (up x + dn (greatest -ℤ y) ≤ up (greatest -ℤ y) + dn x) → le_z x (greatest -ℤ y) ≡ in_i64 (x +ℤ y)
         cases (yes h) =
             is_le x (greatest -ℤ y) h
             ∙ sym (in-true (x +ℤ y)

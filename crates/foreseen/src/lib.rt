@@ -3,7 +3,7 @@
 ghost use Rattle.std.specs.Prelude.{◌≡◌, length};
 ghost use Rattle.definitions.specs.Write.{writing};
 ghost use Rattle.definitions.specs.Table.{table};
-ghost use Rattle.foreseen.specs.Returning.{saidReturned, returning, foretold};
+ghost use Rattle.foreseen.specs.Returning.{said_returned, returning, foretold};
 
 use definitions::{Mode, Refusal};
 use measures::{Extent, Measure};
@@ -22,7 +22,7 @@ pub enum Returned {
 
 // 14 of the writer, then the reader's 1, 9 and 10: no other refusal is left once the rows are known to be good.
 fn foretell(all: Extent, room: usize, rows: usize, terms: usize) -> Returned
-    ensures { saidReturned result ≡ foretold all room rows terms }
+    ensures { said_returned result ≡ foretold all room rows terms }
 {
     let length = all.length as usize;
     let lines = all.lines as usize;
@@ -76,7 +76,7 @@ pub fn foresee(
     newweights: &[i64],
     newliterals: &[u32],
 ) -> Returned
-    ensures { saidReturned result ≡ returning mode (table newkinds.now newfirsts.now newcounts.now newbounds.now newweights.now newliterals.now)
+    ensures { said_returned result ≡ returning mode (table newkinds.now newfirsts.now newcounts.now newbounds.now newweights.now newliterals.now)
         (writing mode (table kinds.now firsts.now counts.now bounds.now weights.now literals.now) text.now (length out.now)) }
 {
     match measures::measure_opb_lines(

@@ -1,13 +1,13 @@
 // The form of a block of value lines (02, A1): "The source's test on the whole block picks the form." Assumes nothing.
 ghost use Rattle.std.specs.Prelude.{◌≡◌, not, ◌&&◌, length};
-ghost use Rattle.definitions.specs.Bytes.{letterX};
-ghost use Rattle.definitions.specs.Values.{isWhite, isBit, frontOf, behind, among, onlyBits, justZero, form_of};
+ghost use Rattle.definitions.specs.Bytes.{letter_x};
+ghost use Rattle.definitions.specs.Values.{is_white, is_bit, front_of, behind, among, only_bits, just_zero, form_of};
 
 use definitions::Form;
 
 // "the six ASCII white space bytes only (9 to 13 and 32)"
 fn white_run(s: &[u8]) -> usize
-    ensures { result ≡ length (frontOf isWhite s.now) }
+    ensures { result ≡ length (front_of is_white s.now) }
 {
     let mut i: usize = 0;
     while i < s.len() {
@@ -21,7 +21,7 @@ fn white_run(s: &[u8]) -> usize
 }
 
 fn bit_run(s: &[u8]) -> usize
-    ensures { result ≡ length (frontOf isBit s.now) }
+    ensures { result ≡ length (front_of is_bit s.now) }
 {
     let mut i: usize = 0;
     while i < s.len() {
@@ -35,7 +35,7 @@ fn bit_run(s: &[u8]) -> usize
 }
 
 fn has_x(s: &[u8]) -> bool
-    ensures { result ≡ among letterX s.now }
+    ensures { result ≡ among letter_x s.now }
 {
     let mut found = false;
     let mut i: usize = 0;
@@ -49,7 +49,7 @@ fn has_x(s: &[u8]) -> bool
 
 // Whether all that stands there, trimmed, is zeros and ones alone, but not just `0`.
 fn is_string(s: &[u8]) -> bool
-    ensures { result ≡ (onlyBits s.now && not (justZero (frontOf isBit (behind isWhite s.now)))) }
+    ensures { result ≡ (only_bits s.now && not (just_zero (front_of is_bit (behind is_white s.now)))) }
 {
     let start = white_run(s);
     let count = bit_run(&s[start..]);

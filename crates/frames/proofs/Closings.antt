@@ -11,10 +11,10 @@ use lib.IntN.{ℤ}
 use lib.ListN.{length, get_or, drop}
 use lib.Seq.{drop-drop}
 use Rattle.definitions.specs.Refusal.{fault}
-use Rattle.definitions.specs.Bytes.{blanks, lineEnding, semicolon}
+use Rattle.definitions.specs.Bytes.{blanks, line_ending, semicolon}
 use Rattle.definitions.specs.Reader.{none, got, Reader, more, chain, done}
 use Rattle.definitions.specs.Number.{number}
-use Rattle.definitions.specs.Text.{gap, operator, closing, ending, comparisonOf, comparison}
+use Rattle.definitions.specs.Text.{gap, operator, closing, ending, comparison_of, comparison}
 use Rattle.definitions.specs.declared.OpbOperator.{OpbOperator}
 use Rattle.definitions.proofs.Chains.{chain-none, chain-got}
 
@@ -27,21 +27,21 @@ closing-empty (b ∷ s) e = absurd (omega arith)
 
 -- k blanks behind the `;`, and n bytes of a line ending behind them
 pub closing-semicolon : (s : List ℕ) (k n : ℕ) → 0 < length s → get_or s 0 0 ≡ semicolon → k ≡ blanks (drop 1 s)
-    → n ≡ lineEnding (drop (k + 1) s) → closing s ≡ got true (k + 1 + n)
+    → n ≡ line_ending (drop (k + 1) s) → closing s ≡ got true (k + 1 + n)
 unfolding closing
 closing-semicolon [] k n h e f g = absurd (omega arith)
 closing-semicolon (b ∷ s) k n h e f g =
-    let m : n ≡ lineEnding (drop k s) = rw add-one at g in
+    let m : n ≡ line_ending (drop k s) = rw add-one at g in
     rw (e, ← f, ← m) (ap (got true) (omega arith))
 
-pub closing-line : (s : List ℕ) (n : ℕ) → 0 < length s → (get_or s 0 0 ≡ semicolon → ⊥) → n ≡ lineEnding s → (n ≡ 0 → ⊥)
+pub closing-line : (s : List ℕ) (n : ℕ) → 0 < length s → (get_or s 0 0 ≡ semicolon → ⊥) → n ≡ line_ending s → (n ≡ 0 → ⊥)
     → closing s ≡ got false n
 unfolding closing
 closing-line [] n h e f g = absurd (omega arith)
 closing-line (b ∷ s) zero h e f g = absurd (g refl)
 closing-line (b ∷ s) (suc n) h e f g = rw (ne_eqb b semicolon e, ← f, closing)
 
-pub closing-none : (s : List ℕ) → 0 < length s → (get_or s 0 0 ≡ semicolon → ⊥) → lineEnding s ≡ 0 → closing s ≡ none (fault 7)
+pub closing-none : (s : List ℕ) → 0 < length s → (get_or s 0 0 ≡ semicolon → ⊥) → line_ending s ≡ 0 → closing s ≡ none (fault 7)
 unfolding closing
 closing-none [] h e f = absurd (omega arith)
 closing-none (b ∷ s) h e f = rw (ne_eqb b semicolon e, f, closing)
@@ -64,7 +64,7 @@ module _ (s : List ℕ) where
   comparison-no-operator o = chain-none operator _ s (fault 6) o
 
   module _ (p : OpbOperator) (n j : ℕ) (o : operator s ≡ got p n) (g : j ≡ blanks (drop n s)) where
-    behind-blanks : comparison s ≡ more n (more j (chain number (λ z. chain ending λ e. done (comparisonOf p z e)) (drop (n + j) s)))
+    behind-blanks : comparison s ≡ more n (more j (chain number (λ z. chain ending λ e. done (comparison_of p z e)) (drop (n + j) s)))
     unfolding comparison gap
     behind-blanks = chain-got operator _ s p n o ∙ ap (more n) (chain-at gap _ s n j j (rw (← g)))
 
@@ -72,16 +72,16 @@ module _ (s : List ℕ) where
     comparison-no-number f = behind-blanks ∙ ap (λ x. more n (more j x)) (chain-none number _ (drop (n + j) s) (fault 3) f)
 
     module _ (z : ℤ) (m : ℕ) (f : number (drop (n + j) s) ≡ got z m) where
-      behind-number : comparison s ≡ more n (more j (more m (chain ending (λ e. done (comparisonOf p z e)) (drop (n + j + m) s))))
+      behind-number : comparison s ≡ more n (more j (more m (chain ending (λ e. done (comparison_of p z e)) (drop (n + j + m) s))))
       behind-number = behind-blanks ∙ ap (λ x. more n (more j x)) (chain-at number _ s (n + j) z m f)
 
       pub comparison-no-ending : ending (drop (n + j + m) s) ≡ none (fault 7) → comparison s ≡ none (fault 7)
       comparison-no-ending e = behind-number ∙ ap (λ x. more n (more j (more m x))) (chain-none ending _ (drop (n + j + m) s) (fault 7) e)
 
       pub comparison-got : (c : Bool) (k : ℕ) → ending (drop (n + j + m) s) ≡ got c k
-          → comparison s ≡ got (comparisonOf p z c) (n + j + m + k)
+          → comparison s ≡ got (comparison_of p z c) (n + j + m + k)
       unfolding done
       comparison-got c k e =
           behind-number
           ∙ ap (λ x. more n (more j (more m x))) (chain-got ending _ (drop (n + j + m) s) c k e)
-          ∙ ap (got (comparisonOf p z c)) (omega arith)
+          ∙ ap (got (comparison_of p z c)) (omega arith)

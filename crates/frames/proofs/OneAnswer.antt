@@ -1,9 +1,9 @@
 -- Each public function has one possible answer for each input: two that its contract allows are equal. None changes
 -- what it is lent.
 use mathlib.Core.Path.{◌≡◌, refl, sym, ap, ◌∙◌}
-use Rattle.definitions.specs.Text.{Comparison, comparisonOf}
+use Rattle.definitions.specs.Text.{Comparison, comparison_of}
 use Rattle.definitions.proofs.Truths.{never}
-use Rattle.frames.specs.Said.{saidEnding, saidComparison}
+use Rattle.frames.specs.Said.{said_ending, said_comparison}
 use Rattle.frames.specs.declared.closing.EndingRead.{EndingRead}
 use Rattle.frames.specs.declared.closing.ComparisonRead.{ComparisonRead}
 use Rattle.frames.specs.declared.closing.EndingRead.TheVariants as ending
@@ -13,15 +13,15 @@ use Rattle.frames.proofs.closing.read_comparison.Reads as read-comparison
 
 -- ---- an answer is known by what it says
 
-pub said-ending : (r r' : EndingRead) → saidEnding r ≡ saidEnding r' → r ≡ r'
+pub said-ending : (r r' : EndingRead) → said_ending r ≡ said_ending r' → r ≡ r'
 said-ending (ending.Ending p n) (ending.Ending q m) e = cc
 said-ending (ending.Ending p n) ending.Missing e = never (cc)
 said-ending ending.Missing (ending.Ending q m) e = never (cc)
 said-ending ending.Missing ending.Missing e = refl
 
-pub said-comparison : (r r' : ComparisonRead) → saidComparison r ≡ saidComparison r' → r ≡ r'
+pub said-comparison : (r r' : ComparisonRead) → said_comparison r ≡ said_comparison r' → r ≡ r'
 said-comparison (comparison.Comparison p z s n) (comparison.Comparison q y t m) e =
-    let c : comparisonOf p z s ≡ comparisonOf q y t = cc in
+    let c : comparison_of p z s ≡ comparison_of q y t = cc in
     let o : p ≡ q = ap (λ (x : Comparison). x.operator) c in
     let b : z ≡ y = ap (λ (x : Comparison). x.number) c in
     let d : s ≡ t = ap (λ (x : Comparison). x.semicolon) c in

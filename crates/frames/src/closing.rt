@@ -1,7 +1,7 @@
 // Ending, and comparison: operator, number, ending (01, "The text"). Assumes nothing.
 ghost use Rattle.std.specs.Prelude.{◌≡◌};
 ghost use Rattle.definitions.specs.Text.{closing, ending, comparison};
-ghost use Rattle.frames.specs.Said.{saidEnding, saidComparison};
+ghost use Rattle.frames.specs.Said.{said_ending, said_comparison};
 
 use definitions::{Fault, OpbOperator};
 use numbers::NumberRead;
@@ -29,7 +29,7 @@ pub enum ComparisonRead {
 
 // "`;` (then blanks and one line ending, if there), or a line ending, or file end"
 fn read_closing(s: &[u8]) -> EndingRead
-    ensures { saidEnding result ≡ closing s.now }
+    ensures { said_ending result ≡ closing s.now }
 {
     if s.len() == 0 {
         return EndingRead::Ending(false, 0);
@@ -49,7 +49,7 @@ fn read_closing(s: &[u8]) -> EndingRead
 
 // "blanks, then" the closing
 pub fn read_ending(s: &[u8]) -> EndingRead
-    ensures { saidEnding result ≡ ending s.now }
+    ensures { said_ending result ≡ ending s.now }
 {
     let k = blanks::blanks_of(s);
     let EndingRead::Ending(semicolon, n) = read_closing(&s[k..]) else {
@@ -60,7 +60,7 @@ pub fn read_ending(s: &[u8]) -> EndingRead
 
 // "operator, blanks, number, ending"
 pub fn read_comparison(s: &[u8]) -> ComparisonRead
-    ensures { saidComparison result ≡ comparison s.now }
+    ensures { said_comparison result ≡ comparison s.now }
 {
     let OperatorRead::Operator(operator, n) = operators::read_operator(s) else {
         return ComparisonRead::Refused(Fault { number: 6 });

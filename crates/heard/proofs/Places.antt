@@ -8,16 +8,16 @@ use native.Mathlib.Omega.{arith}
 use borrow.Author.Tests.{leb-true}
 use lib.Dec.{leb, eqb}
 use lib.ListN.{length, drop, length-drop}
-use Rattle.definitions.specs.Limits.{indexLimit, fileNumberLimit}
-use Rattle.definitions.specs.Bytes.{lf, minus, plus, tilde, letterX}
+use Rattle.definitions.specs.Limits.{index_limit, file_number_limit}
+use Rattle.definitions.specs.Bytes.{lf, minus, plus, tilde, letter_x}
 use Rattle.definitions.specs.Refusal.{refusal, Checked, refuse, accept}
 use Rattle.definitions.specs.declared.Refusal.{Refusal}
-use Rattle.definitions.specs.Literal.{code_of, index_of, isIndex, index}
+use Rattle.definitions.specs.Literal.{code_of, index_of, is_index, index}
 use Rattle.definitions.specs.Table.{and_then}
-use Rattle.definitions.specs.Values.{Item, untagged, token, Spot, front, between, inside, itemsFrom, letterV, isWhite, isSolid}
-use Rattle.definitions.specs.Values.{frontOf, wholeNumber, literalFor, signedFor, signedToken, namedVariable, xToken}
-use Rattle.tokens.specs.Said.{tokenSays}
-use Rattle.settling.specs.Flat.{Placed, placed, saidBy, stopOf}
+use Rattle.definitions.specs.Values.{Item, untagged, token, Spot, front, between, inside, items_from, letter_v, is_white, is_solid}
+use Rattle.definitions.specs.Values.{front_of, whole_number, literal_for, signed_for, signed_token, named_variable, x_token}
+use Rattle.tokens.specs.Said.{token_says}
+use Rattle.settling.specs.Flat.{Placed, placed, said_by, stop_of}
 use Rattle.heard.specs.Windows.{PlacesBelow}
 use Rattle.heard.proofs.Split.{Ascending, ascending-from, Known}
 
@@ -25,7 +25,7 @@ use Rattle.heard.proofs.Split.{Ascending, ascending-from, Known}
 
 abbrev pub AtMostOne : List ℕ → Type 0
 AtMostOne [] = Unit {0}
-AtMostOne (c ∷ []) = index_of c ≤ indexLimit
+AtMostOne (c ∷ []) = index_of c ≤ index_limit
 AtMostOne (c ∷ d ∷ cs) = ⊥
 
 abbrev pub Fine : Checked (List ℕ) → Type 0
@@ -40,59 +40,59 @@ fine-then : (x : Checked ℕ) (f : ℕ → Checked (List ℕ)) → ((n : ℕ) �
 fine-then (refuse e) f p = tt
 fine-then (accept n) f p = p n
 
-code_in : (negative : Bool) (v : ℕ) → v ≤ indexLimit → index_of (code_of negative v) ≤ indexLimit
+code_in : (negative : Bool) (v : ℕ) → v ≤ index_limit → index_of (code_of negative v) ≤ index_limit
 code_in true v h = omega arith
 code_in false v h = omega arith
 
-fine-literal : (negative : Bool) (n : ℕ) → Fine (literalFor negative n)
+fine-literal : (negative : Bool) (n : ℕ) → Fine (literal_for negative n)
 unfolding index
-fine-literal negative n = tested (leb n fileNumberLimit) (leb 1 n) (isIndex (n - 1)) refl
+fine-literal negative n = tested (leb n file_number_limit) (leb 1 n) (is_index (n - 1)) refl
   where
-    tested : (p q r : Bool) → isIndex (n - 1) ≡ r
+    tested : (p q r : Bool) → is_index (n - 1) ≡ r
         → Fine (and_then (cond (p && (q && r)) (accept (n - 1)) (refuse 5)) (λ v. accept (code_of negative v ∷ [])))
-    tested true true true e = code_in negative (n - 1) (leb-true (n - 1) indexLimit e)
+    tested true true true e = code_in negative (n - 1) (leb-true (n - 1) index_limit e)
     tested true true false e = tt
     tested true false r e = tt
     tested false q r e = tt
 
-fine-signed-for : (negative : Bool) (n : ℕ) → Fine (signedFor negative n)
-fine-signed-for negative n = fine-cond (eqb n 0) (accept []) (literalFor negative n) tt (fine-literal negative n)
+fine-signed-for : (negative : Bool) (n : ℕ) → Fine (signed_for negative n)
+fine-signed-for negative n = fine-cond (eqb n 0) (accept []) (literal_for negative n) tt (fine-literal negative n)
 
-fine-signed : (s : List ℕ) → Fine (signedToken s)
-unfolding signedToken
+fine-signed : (s : List ℕ) → Fine (signed_token s)
+unfolding signed_token
 fine-signed [] = tt
 fine-signed (b ∷ s) =
     fine-cond
     (eqb b minus)
-    (and_then (wholeNumber s) (signedFor true))
-    (cond (eqb b plus) (and_then (wholeNumber s) (signedFor false)) (and_then (wholeNumber (b ∷ s)) (signedFor false)))
-    (fine-then (wholeNumber s) (signedFor true) (fine-signed-for true))
+    (and_then (whole_number s) (signed_for true))
+    (cond (eqb b plus) (and_then (whole_number s) (signed_for false)) (and_then (whole_number (b ∷ s)) (signed_for false)))
+    (fine-then (whole_number s) (signed_for true) (fine-signed-for true))
     (fine-cond
     (eqb b plus)
-    (and_then (wholeNumber s) (signedFor false))
-    (and_then (wholeNumber (b ∷ s)) (signedFor false))
-    (fine-then (wholeNumber s) (signedFor false) (fine-signed-for false))
-    (fine-then (wholeNumber (b ∷ s)) (signedFor false) (fine-signed-for false)))
+    (and_then (whole_number s) (signed_for false))
+    (and_then (whole_number (b ∷ s)) (signed_for false))
+    (fine-then (whole_number s) (signed_for false) (fine-signed-for false))
+    (fine-then (whole_number (b ∷ s)) (signed_for false) (fine-signed-for false)))
 
-fine-named : (negative : Bool) (s : List ℕ) → Fine (namedVariable negative s)
-unfolding namedVariable
+fine-named : (negative : Bool) (s : List ℕ) → Fine (named_variable negative s)
+unfolding named_variable
 fine-named negative [] = tt
 fine-named negative (b ∷ s) =
     fine-cond
-    (eqb b letterX)
-    (and_then (wholeNumber s) (literalFor negative))
+    (eqb b letter_x)
+    (and_then (whole_number s) (literal_for negative))
     (refuse 21)
-    (fine-then (wholeNumber s) (literalFor negative) (fine-literal negative))
+    (fine-then (whole_number s) (literal_for negative) (fine-literal negative))
     tt
 
-fine-x : (s : List ℕ) → Fine (xToken s)
-unfolding xToken
+fine-x : (s : List ℕ) → Fine (x_token s)
+unfolding x_token
 fine-x [] = tt
 fine-x (b ∷ s) =
-    fine-cond (eqb b tilde || eqb b minus) (namedVariable true s) (namedVariable false (b ∷ s)) (fine-named true s)
+    fine-cond (eqb b tilde || eqb b minus) (named_variable true s) (named_variable false (b ∷ s)) (fine-named true s)
     (fine-named false (b ∷ s))
 
-pub says-one : (named : Bool) (s : List ℕ) → Fine (tokenSays named s)
+pub says-one : (named : Bool) (s : List ℕ) → Fine (token_says named s)
 says-one true s = fine-x s
 says-one false s = fine-signed s
 
@@ -106,28 +106,28 @@ pub record Orderly (from stop : ℕ) (xs : List Placed) : Type 0 where
   pub ahead : from ≤ stop
 
 abbrev pub OrderlyAt : Bool → ℕ → ℕ → List Item → Type 0
-OrderlyAt named end from is = Orderly from (stopOf named end is).place (saidBy named is)
+OrderlyAt named end from is = Orderly from (stop_of named end is).place (said_by named is)
 
 module _ (named : Bool) (end from : ℕ) where
   orderly-skip : (is : List Item) → OrderlyAt named end (from + 1) is → OrderlyAt named end from is
   orderly-skip is o =
       record {
-        ascending = ascending-from from (from + 1) (saidBy named is) (omega arith) o.ascending;
+        ascending = ascending-from from (from + 1) (said_by named is) (omega arith) o.ascending;
         below = o.below;
         known = o.known;
         ahead = omega (arith, o.ahead);
       }
 
   orderly-end : from ≤ end → OrderlyAt named end from []
-  unfolding saidBy stopOf
+  unfolding said_by stop_of
   orderly-end h = record { ascending = tt; below = tt; known = tt; ahead = h }
 
   orderly-untagged : OrderlyAt named end from (untagged from ∷ [])
-  unfolding saidBy stopOf
+  unfolding said_by stop_of
   orderly-untagged = record { ascending = tt; below = tt; known = tt; ahead = omega arith }
 
   orderly-said : (cs : List ℕ) (is : List Item) → AtMostOne cs → OrderlyAt named end (from + 1) is
-      → Orderly from (stopOf named end is).place (map (placed from) cs ++ saidBy named is)
+      → Orderly from (stop_of named end is).place (map (placed from) cs ++ said_by named is)
   orderly-said [] is f o = orderly-skip is o
   orderly-said (c ∷ []) is f o =
       record {
@@ -139,13 +139,13 @@ module _ (named : Bool) (end from : ℕ) where
   orderly-said (c ∷ d ∷ cs) is f o = absurd f
 
   orderly-token : (s : List ℕ) (is : List Item) → OrderlyAt named end (from + 1) is → OrderlyAt named end from (token from s ∷ is)
-  unfolding saidBy stopOf
-  orderly-token s is o = pick (tokenSays named s) (says-one named s)
+  unfolding said_by stop_of
+  orderly-token s is o = pick (token_says named s) (says-one named s)
     where
       pick : (x : Checked (List ℕ)) → Fine x → Orderly
           from
-          (elim x as (λ (y : Checked (List ℕ)). Refusal) [ refuse e ↦ refusal e from | accept cs ↦ stopOf named end is ]).place
-          (elim x [ refuse e ↦ [] | accept cs ↦ map (placed from) cs ++ saidBy named is ])
+          (elim x as (λ (y : Checked (List ℕ)). Refusal) [ refuse e ↦ refusal e from | accept cs ↦ stop_of named end is ]).place
+          (elim x [ refuse e ↦ [] | accept cs ↦ map (placed from) cs ++ said_by named is ])
       pick (refuse e) f = record { ascending = tt; below = tt; known = tt; ahead = omega arith }
       pick (accept cs) f = orderly-said cs is f o
 
@@ -173,22 +173,22 @@ module _ (named : Bool) (end from : ℕ) where
   pick-inside false false is js ks o p q = orderly-skip ks q
 
 -- of a block's rest s, which begins at the offset from and ends at `end`
-pub orderly : (named : Bool) (end from : ℕ) (w : Spot) (s : List ℕ) → end ≡ from + length s → OrderlyAt named end from (itemsFrom w from s)
-unfolding itemsFrom
+pub orderly : (named : Bool) (end from : ℕ) (w : Spot) (s : List ℕ) → end ≡ from + length s → OrderlyAt named end from (items_from w from s)
+unfolding items_from
 orderly named end from w [] e = orderly-end named end from (omega arith)
 orderly named end from front (b ∷ s) e =
-    pick-front named end from (eqb b letterV) (itemsFrom between (from + 1) s) (orderly named end (from + 1) between s (omega arith))
+    pick-front named end from (eqb b letter_v) (items_from between (from + 1) s) (orderly named end (from + 1) between s (omega arith))
 orderly named end from between (b ∷ s) e =
     pick-between
     named
     end
     from
     (eqb b lf)
-    (isWhite b)
-    (frontOf isSolid (b ∷ s))
-    (itemsFrom front (from + 1) s)
-    (itemsFrom between (from + 1) s)
-    (itemsFrom inside (from + 1) s)
+    (is_white b)
+    (front_of is_solid (b ∷ s))
+    (items_from front (from + 1) s)
+    (items_from between (from + 1) s)
+    (items_from inside (from + 1) s)
     (orderly named end (from + 1) front s (omega arith))
     (orderly named end (from + 1) between s (omega arith))
     (orderly named end (from + 1) inside s (omega arith))
@@ -198,15 +198,15 @@ orderly named end from inside (b ∷ s) e =
     end
     from
     (eqb b lf)
-    (isWhite b)
-    (itemsFrom front (from + 1) s)
-    (itemsFrom between (from + 1) s)
-    (itemsFrom inside (from + 1) s)
+    (is_white b)
+    (items_from front (from + 1) s)
+    (items_from between (from + 1) s)
+    (items_from inside (from + 1) s)
     (orderly named end (from + 1) front s (omega arith))
     (orderly named end (from + 1) between s (omega arith))
     (orderly named end (from + 1) inside s (omega arith))
 
 -- of a block from an offset on
 pub orderly_from : (named : Bool) (w : Spot) (block : List ℕ) (from : ℕ) → from ≤ length block
-    → OrderlyAt named (length block) from (itemsFrom w from (drop from block))
+    → OrderlyAt named (length block) from (items_from w from (drop from block))
 orderly_from named w block from h = orderly named (length block) from w (drop from block) (omega (arith, length-drop from block))

@@ -7,11 +7,11 @@ use mathlib.Core.List.{List, [], ◌∷◌, ◌++◌}
 use native.Mathlib.Omega.{arith}
 use borrow.Author.Tests.{ltb-true, ltb-false, leb-true, leb-false, eqb-true, lt-ltb, le-ltb, le-leb, lt-leb}
 use lib.Dec.{leb, ltb, eqb}
-use Rattle.definitions.specs.Limits.{indexLimit}
+use Rattle.definitions.specs.Limits.{index_limit}
 use Rattle.definitions.specs.Literal.{index_of, opposite}
 use Rattle.definitions.specs.Values.{among, conflicts}
 use Rattle.settling.specs.Flat.{Placed}
-use Rattle.heard.specs.Windows.{windowSize, conflictAt, only, inWindow, below, leastFrom, PlacesBelow}
+use Rattle.heard.specs.Windows.{window_size, conflict_at, only, in_window, below, least_from, PlacesBelow}
 
 -- two of which both cannot be
 pub never {ℓ} : {A : Type ℓ} → ◌≡◌ {A = Bool} true false → A
@@ -20,14 +20,14 @@ never e = let z : ◌≡◌ {A = ℕ} 0 1 = cc in absurd (omega arith)
 -- ---- one step of each definition
 
 module _ (ws ks heard : List ℕ) (end : ℕ) (x : Placed) (xs : List Placed) where
-  pub conflict-here : conflicts ws ks heard x.code ≡ true → conflictAt ws ks heard end (x ∷ xs) ≡ x.place
-  unfolding conflictAt
-  conflict-here e = rw (conflictAt, e)
+  pub conflict-here : conflicts ws ks heard x.code ≡ true → conflict_at ws ks heard end (x ∷ xs) ≡ x.place
+  unfolding conflict_at
+  conflict-here e = rw (conflict_at, e)
 
   pub conflict-later : conflicts ws ks heard x.code ≡ false
-      → conflictAt ws ks heard end (x ∷ xs) ≡ conflictAt ws ks (heard ++ (x.code ∷ [])) end xs
-  unfolding conflictAt
-  conflict-later e = rw (conflictAt, e)
+      → conflict_at ws ks heard end (x ∷ xs) ≡ conflict_at ws ks (heard ++ (x.code ∷ [])) end xs
+  unfolding conflict_at
+  conflict-later e = rw (conflict_at, e)
 
 module _ (t : ℕ → Bool) (x : Placed) (xs : List Placed) where
   pub only-in : t (index_of x.code) ≡ true → only t (x ∷ xs) ≡ x ∷ only t xs
@@ -66,39 +66,39 @@ ascending-from m n (x ∷ xs) h a = (omega (arith, a.0), a.1)
 
 module _ (ws ks : List ℕ) (end from : ℕ) (t : ℕ → Bool) (x : Placed) (xs : List Placed) (h : from ≤ x.place) where
   from-met :
-      (heard : List ℕ) → ((hs : List ℕ) → x.place + 1 ≤ conflictAt ws ks hs end (only t xs)) →
-      (r : Bool) → conflicts ws ks heard x.code ≡ r → from ≤ conflictAt ws ks heard end (x ∷ only t xs)
+      (heard : List ℕ) → ((hs : List ℕ) → x.place + 1 ≤ conflict_at ws ks hs end (only t xs)) →
+      (r : Bool) → conflicts ws ks heard x.code ≡ r → from ≤ conflict_at ws ks heard end (x ∷ only t xs)
   from-met heard rest true e = rw (conflict-here ws ks heard end x (only t xs) e) h
   from-met heard rest false e = rw (conflict-later ws ks heard end x (only t xs) e) (omega (arith, rest (heard ++ (x.code ∷ []))))
 
   from_step :
-      (heard : List ℕ) → ((hs : List ℕ) → x.place + 1 ≤ conflictAt ws ks hs end (only t xs)) →
-      (r : Bool) → t (index_of x.code) ≡ r → from ≤ conflictAt ws ks heard end (only t (x ∷ xs))
+      (heard : List ℕ) → ((hs : List ℕ) → x.place + 1 ≤ conflict_at ws ks hs end (only t xs)) →
+      (r : Bool) → t (index_of x.code) ≡ r → from ≤ conflict_at ws ks heard end (only t (x ∷ xs))
   from_step heard rest true e = rw (only-in t x xs e) (from-met heard rest (conflicts ws ks heard x.code) refl)
   from_step heard rest false e = rw (only_out t x xs e) (omega (arith, rest heard))
 
 pub conflict-from :
     (ws ks : List ℕ) (end from : ℕ) (t : ℕ → Bool) (xs : List Placed) → from ≤ end → Ascending from xs → PlacesBelow end xs →
-    (heard : List ℕ) → from ≤ conflictAt ws ks heard end (only t xs)
-unfolding conflictAt only
+    (heard : List ℕ) → from ≤ conflict_at ws ks heard end (only t xs)
+unfolding conflict_at only
 conflict-from ws ks end from t [] h a b heard = h
 conflict-from ws ks end from t (x ∷ xs) h a b heard =
     from_step ws ks end from t x xs a.0 heard (conflict-from ws ks end (x.place + 1) t xs (omega (arith, b.0)) a.1 b.1)
     (t (index_of x.code)) refl
 
 pub conflict-within : (ws ks : List ℕ) (end : ℕ) (t : ℕ → Bool) (xs : List Placed) → PlacesBelow end xs → (heard : List ℕ)
-    → conflictAt ws ks heard end (only t xs) ≤ end
-unfolding conflictAt only
+    → conflict_at ws ks heard end (only t xs) ≤ end
+unfolding conflict_at only
 conflict-within ws ks end t [] b heard = omega arith
 conflict-within ws ks end t (x ∷ xs) b heard = step (conflict-within ws ks end t xs b.1) (t (index_of x.code)) refl
   where
-    met : ((hs : List ℕ) → conflictAt ws ks hs end (only t xs) ≤ end) → (r : Bool) → conflicts ws ks heard x.code ≡ r
-        → conflictAt ws ks heard end (x ∷ only t xs) ≤ end
+    met : ((hs : List ℕ) → conflict_at ws ks hs end (only t xs) ≤ end) → (r : Bool) → conflicts ws ks heard x.code ≡ r
+        → conflict_at ws ks heard end (x ∷ only t xs) ≤ end
     met rest true e = rw (conflict-here ws ks heard end x (only t xs) e) (omega (arith, b.0))
     met rest false e = rw (conflict-later ws ks heard end x (only t xs) e) (rest (heard ++ (x.code ∷ [])))
 
-    step : ((hs : List ℕ) → conflictAt ws ks hs end (only t xs) ≤ end) → (r : Bool) → t (index_of x.code) ≡ r
-        → conflictAt ws ks heard end (only t (x ∷ xs)) ≤ end
+    step : ((hs : List ℕ) → conflict_at ws ks hs end (only t xs) ≤ end) → (r : Bool) → t (index_of x.code) ≡ r
+        → conflict_at ws ks heard end (only t (x ∷ xs)) ≤ end
     step rest true e = rw (only-in t x xs e) (met rest (conflicts ws ks heard x.code) refl)
     step rest false e = rw (only_out t x xs e) (rest heard)
 
@@ -134,7 +134,7 @@ agree-other t os bs d n h c e =
 
 module _ (ws ks : List ℕ) (end : ℕ) (whole one two : ℕ → Bool) where
   abbrev first_of : (ℕ → Bool) → List ℕ → List Placed → ℕ
-  first_of t heard xs = conflictAt ws ks heard end (only t xs)
+  first_of t heard xs = conflict_at ws ks heard end (only t xs)
 
   abbrev Splits : List Placed → List ℕ → List ℕ → List ℕ → Type 0
   Splits xs heard os bs = first_of whole heard xs ≡ min (first_of one os xs) (first_of two bs xs)
@@ -148,7 +148,7 @@ module _ (ws ks : List ℕ) (end : ℕ) (whole one two : ℕ → Bool) where
         conflicts ws ks heard x.code ≡ conflicts ws ks os x.code → x.place ≤ first_of two bs xs
         → Splits xs (grown heard) (grown os) bs →
         (r : Bool) → conflicts ws ks heard x.code ≡ r →
-        conflictAt ws ks heard end (x ∷ only whole xs) ≡ min (conflictAt ws ks os end (x ∷ only one xs)) (first_of two bs xs)
+        conflict_at ws ks heard end (x ∷ only whole xs) ≡ min (conflict_at ws ks os end (x ∷ only one xs)) (first_of two bs xs)
     in-first same late rest true e =
         rw (conflict-here ws ks heard end x (only whole xs) e, conflict-here ws ks os end x (only one xs) (sym same ∙ e)) (omega arith)
     in-first same late rest false e =
@@ -158,7 +158,7 @@ module _ (ws ks : List ℕ) (end : ℕ) (whole one two : ℕ → Bool) where
         conflicts ws ks heard x.code ≡ conflicts ws ks bs x.code → x.place ≤ first_of one os xs
         → Splits xs (grown heard) os (grown bs) →
         (r : Bool) → conflicts ws ks heard x.code ≡ r →
-        conflictAt ws ks heard end (x ∷ only whole xs) ≡ min (first_of one os xs) (conflictAt ws ks bs end (x ∷ only two xs))
+        conflict_at ws ks heard end (x ∷ only whole xs) ≡ min (first_of one os xs) (conflict_at ws ks bs end (x ∷ only two xs))
     in-second same late rest true e =
         rw (conflict-here ws ks heard end x (only whole xs) e, conflict-here ws ks bs end x (only two xs) (sym same ∙ e)) (omega arith)
     in-second same late rest false e =
@@ -189,7 +189,7 @@ module _ (ws ks : List ℕ) (end : ℕ) (whole one two : ℕ → Bool) where
   pub split :
       (from : ℕ) (xs : List Placed) → Ascending from xs → PlacesBelow end xs → EachVar (λ v. Part (whole v) (one v) (two v)) xs →
       (heard os bs : List ℕ) → Agree one heard os → Agree two heard bs → Splits xs heard os bs
-  unfolding conflictAt only
+  unfolding conflict_at only
   split from [] a b e heard os bs p q = omega arith
   split from (x ∷ xs) a b e heard os bs p q =
       step x xs heard os bs p q a.1 b.0 b.1 (split (x.place + 1) xs a.1 b.1 e.1) e.0
@@ -221,22 +221,22 @@ each_both p q (x ∷ xs) e f = ((e.0, f.0), each_both p q xs e.1 f.1)
 -- ---- the least variable from n on
 
 module _ (n : ℕ) (x : Placed) (xs : List Placed) where
-  pub least-here : n ≤ index_of x.code → leastFrom n (x ∷ xs) ≡ min (index_of x.code) (leastFrom n xs)
-  unfolding leastFrom
+  pub least-here : n ≤ index_of x.code → least_from n (x ∷ xs) ≡ min (index_of x.code) (least_from n xs)
+  unfolding least_from
   least-here h = rw (le-leb n (index_of x.code) h)
 
-  pub least_on : index_of x.code < n → leastFrom n (x ∷ xs) ≡ leastFrom n xs
-  unfolding leastFrom
+  pub least_on : index_of x.code < n → least_from n (x ∷ xs) ≡ least_from n xs
+  unfolding least_from
   least_on h = rw (lt-leb n (index_of x.code) h)
 
 -- it is none of those before n, and no variable lies between
 pub record Least (n : ℕ) (xs : List Placed) : Type 0 where
-  pub least : min n (indexLimit + 1) ≤ leastFrom n xs
-  pub greatest : leastFrom n xs ≤ indexLimit + 1
-  pub gap : (m : ℕ) → m ≤ leastFrom n xs → EachVar (λ v. n ≤ v → m ≤ v) xs
+  pub least : min n (index_limit + 1) ≤ least_from n xs
+  pub greatest : least_from n xs ≤ index_limit + 1
+  pub gap : (m : ℕ) → m ≤ least_from n xs → EachVar (λ v. n ≤ v → m ≤ v) xs
 
 pub least-is : (n : ℕ) (xs : List Placed) → Least n xs
-unfolding leastFrom
+unfolding least_from
 least-is n [] = record { least = omega arith; greatest = omega arith; gap = λ m h. tt }
 least-is n (x ∷ xs) = step (least-is n xs) (leb n v) refl
   where
@@ -262,62 +262,62 @@ least-is n (x ∷ xs) = step (least-is n xs) (leb n v) refl
 -- ---- window by window
 
 abbrev pub Known : List Placed → Type 0
-Known xs = EachVar (λ v. v ≤ indexLimit) xs
+Known xs = EachVar (λ v. v ≤ index_limit) xs
 
 -- a variable of the window, by its bounds
-pub window-in : (base v : ℕ) → base ≤ v → v < base + windowSize → inWindow base v ≡ true
-window-in base v h k = rw (le-leb base v h, lt-ltb v (base + windowSize) k)
+pub window-in : (base v : ℕ) → base ≤ v → v < base + window_size → in_window base v ≡ true
+window-in base v h k = rw (le-leb base v h, lt-ltb v (base + window_size) k)
 
-pub window-before : (base v : ℕ) → v < base → inWindow base v ≡ false
+pub window-before : (base v : ℕ) → v < base → in_window base v ≡ false
 window-before base v h = rw (lt-leb base v h)
 
-pub window-behind : (base v : ℕ) → base + windowSize ≤ v → inWindow base v ≡ false
-window-behind base v h = rw (le-ltb v (base + windowSize) h) (and-false (leb base v))
+pub window-behind : (base v : ℕ) → base + window_size ≤ v → in_window base v ≡ false
+window-behind base v h = rw (le-ltb v (base + window_size) h) (and-false (leb base v))
 
 -- the variables below the next window's front are those below this one's, and its own
-part_at : (base next v : ℕ) → base ≤ indexLimit → min (base + windowSize) (indexLimit + 1) ≤ next → v ≤ indexLimit
-    → (base + windowSize ≤ v → next ≤ v)
-    → Part (below next v) (below base v) (inWindow base v)
+part_at : (base next v : ℕ) → base ≤ index_limit → min (base + window_size) (index_limit + 1) ≤ next → v ≤ index_limit
+    → (base + window_size ≤ v → next ≤ v)
+    → Part (below next v) (below base v) (in_window base v)
 part_at base next v h k l g = before (ltb v base) refl
   where
-    behind : base ≤ v → (r : Bool) → ltb v (base + windowSize) ≡ r → Part (below next v) (below base v) (inWindow base v)
+    behind : base ≤ v → (r : Bool) → ltb v (base + window_size) ≡ r → Part (below next v) (below base v) (in_window base v)
     behind q true e =
-        let u = ltb-true v (base + windowSize) e in second (lt-ltb v next (omega arith)) (le-ltb v base q) (window-in base v q u)
+        let u = ltb-true v (base + window_size) e in second (lt-ltb v next (omega arith)) (le-ltb v base q) (window-in base v q u)
     behind q false e =
-        let u = ltb-false v (base + windowSize) e in
+        let u = ltb-false v (base + window_size) e in
         let w = g u in
         neither (le-ltb v next w) (le-ltb v base q) (window-behind base v u)
 
-    before : (r : Bool) → ltb v base ≡ r → Part (below next v) (below base v) (inWindow base v)
+    before : (r : Bool) → ltb v base ≡ r → Part (below next v) (below base v) (in_window base v)
     before true e = let u = ltb-true v base e in first (lt-ltb v next (omega arith)) (lt-ltb v base u) (window-before base v u)
-    before false e = behind (ltb-false v base e) (ltb v (base + windowSize)) refl
+    before false e = behind (ltb-false v base e) (ltb v (base + window_size)) refl
 
 module _ (ws ks : List ℕ) (end : ℕ) (xs : List Placed) where
   -- the first conflict of the variables below base
-  abbrev pub firstBelow : ℕ → ℕ
-  firstBelow base = conflictAt ws ks [] end (only (below base) xs)
+  abbrev pub first_below : ℕ → ℕ
+  first_below base = conflict_at ws ks [] end (only (below base) xs)
 
-  pub windows-start : end ≡ firstBelow 0
-  unfolding conflictAt
+  pub windows-start : end ≡ first_below 0
+  unfolding conflict_at
   windows-start = rw (only_none (below 0) xs (each-var (λ v. below 0 v ≡ false) (λ v. le-ltb v 0 (omega arith)) xs))
 
   module _ (a : Ascending 0 xs) (b : PlacesBelow end xs) (k : Known xs) (base : ℕ) where
     pub windows-step :
-        base ≤ indexLimit → min (firstBelow base) (conflictAt ws ks [] end (only (inWindow base) xs))
-        ≡ firstBelow (leastFrom (base + windowSize) xs)
+        base ≤ index_limit → min (first_below base) (conflict_at ws ks [] end (only (in_window base) xs))
+        ≡ first_below (least_from (base + window_size) xs)
     windows-step h =
-        let next = leastFrom (base + windowSize) xs in
-        let l = least-is (base + windowSize) xs in
-        let parts : EachVar (λ v. Part (below next v) (below base v) (inWindow base v)) xs = each_from
-        (λ v. (v ≤ indexLimit) × (base + windowSize ≤ v → next ≤ v))
-        (λ v. Part (below next v) (below base v) (inWindow base v))
+        let next = least_from (base + window_size) xs in
+        let l = least-is (base + window_size) xs in
+        let parts : EachVar (λ v. Part (below next v) (below base v) (in_window base v)) xs = each_from
+        (λ v. (v ≤ index_limit) × (base + window_size ≤ v → next ≤ v))
+        (λ v. Part (below next v) (below base v) (in_window base v))
         (λ v q. part_at base next v h l.least q.0 q.1)
         xs
-        (each_both (λ v. v ≤ indexLimit) (λ v. base + windowSize ≤ v → next ≤ v) xs k (l.gap next (omega arith))) in
-        sym (split ws ks end (below next) (below base) (inWindow base) 0 xs a b parts [] [] [] (λ c e. refl) (λ c e. refl))
+        (each_both (λ v. v ≤ index_limit) (λ v. base + window_size ≤ v → next ≤ v) xs k (l.gap next (omega arith))) in
+        sym (split ws ks end (below next) (below base) (in_window base) 0 xs a b parts [] [] [] (λ c e. refl) (λ c e. refl))
 
-    pub windows-end : indexLimit < base → firstBelow base ≡ conflictAt ws ks [] end xs
+    pub windows-end : index_limit < base → first_below base ≡ conflict_at ws ks [] end xs
     windows-end h =
-        ap (conflictAt ws ks [] end)
+        ap (conflict_at ws ks [] end)
         (only-all (below base) xs
-        (each_from (λ v. v ≤ indexLimit) (λ v. below base v ≡ true) (λ v q. lt-ltb v base (omega (arith, q))) xs k))
+        (each_from (λ v. v ≤ index_limit) (λ v. below base v ≡ true) (λ v q. lt-ltb v base (omega (arith, q))) xs k))

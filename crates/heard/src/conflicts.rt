@@ -3,9 +3,9 @@
 // window of variables; each window in use has a walk of its own. Assumes nothing.
 ghost use Rattle.std.specs.Prelude.{◌≡◌, [], ◌≤◌, min, length};
 ghost use Rattle.definitions.specs.Literal.{index_of};
-ghost use Rattle.definitions.specs.Values.{front, itemsFrom};
-ghost use Rattle.settling.specs.Flat.{saidBy};
-ghost use Rattle.heard.specs.Windows.{conflictAt, windowOf, marksSize, PlacesBelow, Unmarked, clashes, meet_of, markedBy, noted};
+ghost use Rattle.definitions.specs.Values.{front, items_from};
+ghost use Rattle.settling.specs.Flat.{said_by};
+ghost use Rattle.heard.specs.Windows.{conflict_at, window_of, marks_size, PlacesBelow, Unmarked, clashes, meet_of, marked_by, noted};
 
 use bits::{bit_at, is_otherwise, make_bit};
 use definitions::INDEX_LIMIT;
@@ -47,7 +47,7 @@ fn clashes(literal: Lit, base: u32, marks: &[u64], values: &[u64], known: &[u64]
 // A literal of the window that does not clash is marked.
 fn meet(literal: Lit, base: u32, marks: &mut [u64], values: &[u64], known: &[u64]) -> Met
     ensures met { result ≡ meet_of values.now known.now marks.old base literal.0 }
-    ensures marks { marks.new ≡ markedBy result base literal.0 marks.old }
+    ensures marks { marks.new ≡ marked_by result base literal.0 marks.old }
 {
     let v = literal.var().index();
     if v < base {
@@ -105,10 +105,10 @@ fn mark_window(
     values: &[u64],
     known: &[u64],
 ) -> Window
-    requires size { length marks.old ≡ marksSize }
+    requires size { length marks.old ≡ marks_size }
     requires unmarked { Unmarked marks.old }
-    requires places { PlacesBelow end (saidBy named (itemsFrom front 0 block.now)) }
-    ensures { result ≡ windowOf values.now known.now end base (saidBy named (itemsFrom front 0 block.now)) }
+    requires places { PlacesBelow end (said_by named (items_from front 0 block.now)) }
+    ensures { result ≡ window_of values.now known.now end base (said_by named (items_from front 0 block.now)) }
 {
     let mut found = Window {
         place: end,
@@ -150,8 +150,8 @@ fn walk_for(
     values: &[u64],
     known: &[u64],
 ) -> Window
-    requires { PlacesBelow end (saidBy named (itemsFrom front 0 block.now)) }
-    ensures { result ≡ windowOf values.now known.now end base (saidBy named (itemsFrom front 0 block.now)) }
+    requires { PlacesBelow end (said_by named (items_from front 0 block.now)) }
+    ensures { result ≡ window_of values.now known.now end base (said_by named (items_from front 0 block.now)) }
 {
     let mut marks = [0u64; 32768];
     mark_window(block, named, end, base, &mut marks, values, known)
@@ -165,8 +165,8 @@ pub(crate) fn first_conflict(
     values: &[u64],
     known: &[u64],
 ) -> usize
-    requires { PlacesBelow end (saidBy named (itemsFrom front 0 block.now)) }
-    ensures { result ≡ conflictAt values.now known.now [] end (saidBy named (itemsFrom front 0 block.now)) }
+    requires { PlacesBelow end (said_by named (items_from front 0 block.now)) }
+    ensures { result ≡ conflict_at values.now known.now [] end (said_by named (items_from front 0 block.now)) }
 {
     let mut found = end;
     let mut base: u32 = 0;

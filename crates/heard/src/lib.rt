@@ -4,16 +4,16 @@ mod conflicts;
 mod survey;
 
 ghost use Rattle.std.specs.Prelude.{◌≡◌, []};
-ghost use Rattle.definitions.specs.Answers.{saidLength};
-ghost use Rattle.definitions.specs.Values.{front, itemsFrom, hear, newLength};
-ghost use Rattle.tokens.specs.Said.{formBy};
+ghost use Rattle.definitions.specs.Answers.{said_length};
+ghost use Rattle.definitions.specs.Values.{front, items_from, hear, new_length};
+ghost use Rattle.tokens.specs.Said.{form_by};
 
 use definitions::{Length, Refusal};
 
 // "per line 20, then by token 21, 5, 22, each placed at its first byte"; or the length, one past the highest variable
 // met.
 pub fn hear(block: &[u8], named: bool, kept: u64, values: &[u64], known: &[u64]) -> Length
-    ensures { saidLength result ≡ newLength kept (hear (formBy named) kept values.now known.now [] (itemsFrom front 0 block.now)) }
+    ensures { said_length result ≡ new_length kept (hear (form_by named) kept values.now known.now [] (items_from front 0 block.now)) }
 {
     let found = survey::survey(block, named, kept);
     let end = found.place;

@@ -2,8 +2,8 @@
 // asks for. Assumes nothing.
 ghost use Rattle.std.specs.Prelude.{◌≡◌, ◌+◌, max, length};
 ghost use Rattle.definitions.specs.Literal.{index_of};
-ghost use Rattle.definitions.specs.Values.{front, itemsFrom};
-ghost use Rattle.heard.specs.Surveys.{surveyOf};
+ghost use Rattle.definitions.specs.Values.{front, items_from};
+ghost use Rattle.heard.specs.Surveys.{survey_of};
 
 use literals::Lit;
 use tokens::{Next, next_token};
@@ -25,7 +25,7 @@ fn past(length: u64, literal: Lit) -> u64
 }
 
 pub(crate) fn survey(block: &[u8], named: bool, kept: u64) -> Surveyed
-    ensures { result ≡ surveyOf named (length block.now) kept (itemsFrom front 0 block.now) }
+    ensures { result ≡ survey_of named (length block.now) kept (items_from front 0 block.now) }
 {
     let mut at: usize = 0;
     let mut opens = true;

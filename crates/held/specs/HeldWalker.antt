@@ -4,5 +4,5 @@ use Rattle.std.specs.Borrow.{Bor}
 use Rattle.definitions.specs.declared.Options.{Options}
 use Rattle.held.specs.declared.Walker.{Walker}
 
-abbrev pub walkerAt : Bor (List ℕ) → Options → ℕ → Walker
-walkerAt file options at = record { file = file; options = options; at = at }
+abbrev pub walker_at : Bor (List ℕ) → Options → ℕ → Walker
+walker_at file options at = record { file = file; options = options; at = at }

@@ -2,7 +2,7 @@
 // made, moved and asked where it stands. Its steps are in held_steps and held_fills. A function over a struct that
 // holds a slice is proved by a walk of its own; whoever calls `walker::step_at` needs none. Assumes nothing.
 ghost use Rattle.std.specs.Prelude.{◌≡◌};
-ghost use Rattle.held.specs.HeldWalker.{walkerAt};
+ghost use Rattle.held.specs.HeldWalker.{walker_at};
 
 use definitions::Options;
 
@@ -16,7 +16,7 @@ pub struct Walker<'a> {
 
 // At the beginning of the file.
 pub fn new<'a>(file: &'a [u8], options: Options) -> Walker<'a>
-    ensures { result ≡ walkerAt file.entry options 0 }
+    ensures { result ≡ walker_at file.entry options 0 }
 {
     Walker {
         file,
@@ -33,7 +33,7 @@ pub fn at<'a>(w: Walker<'a>) -> usize
 
 // The same file, from another offset on.
 pub fn moved<'a>(w: Walker<'a>, at: usize) -> Walker<'a>
-    ensures { result ≡ walkerAt w.entry.file w.entry.options at }
+    ensures { result ≡ walker_at w.entry.file w.entry.options at }
 {
     Walker {
         file: w.file,

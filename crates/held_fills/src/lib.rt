@@ -1,6 +1,6 @@
 // The terms of the statement that a walker (crates/held) comes to next, into lent columns: the struct is taken apart
 // and `fills::fill_at` called, by a walk of its own as there. Assumes nothing.
-ghost use Rattle.definitions.specs.Stepping.{termsAtStep};
+ghost use Rattle.definitions.specs.Stepping.{terms_at_step};
 ghost use Rattle.fills.specs.FillsTerms.{FillsTerms};
 
 use definitions::Length;
@@ -8,7 +8,7 @@ use held::Walker;
 
 // The terms of the next statement; the walker stays where it is.
 pub fn fill<'a>(w: Walker<'a>, weights: &mut [i64], literals: &mut [u32]) -> Length
-    ensures { FillsTerms (termsAtStep w.entry.options w.entry.file.now w.entry.at weights.old literals.old) weights.old literals.old result weights.new literals.new }
+    ensures { FillsTerms (terms_at_step w.entry.options w.entry.file.now w.entry.at weights.old literals.old) weights.old literals.old result weights.new literals.new }
 {
     fills::fill_at(w.file, w.options, w.at, weights, literals)
 }

@@ -1,7 +1,7 @@
 // The steps of a walker (crates/held): each function takes the struct apart and calls a function of the crate walker,
 // by a walk of its own. Assumes nothing.
 ghost use Rattle.std.specs.Prelude.{◌≡◌};
-ghost use Rattle.walker.specs.Said.{saidStepped, briefStepped};
+ghost use Rattle.walker.specs.Said.{said_stepped, brief_stepped};
 ghost use Rattle.held_steps.specs.WalkerSteps.{step_of, Nexts};
 
 use held::Walker;
@@ -9,7 +9,7 @@ use walker::Stepped;
 
 // The next statement; the walker stays where it is.
 pub fn step<'a>(w: Walker<'a>) -> Stepped
-    ensures { saidStepped result ≡ briefStepped (step_of w.entry) }
+    ensures { said_stepped result ≡ brief_stepped (step_of w.entry) }
 {
     walker::step_at(w.file, w.options, w.at)
 }

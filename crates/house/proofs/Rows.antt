@@ -8,12 +8,12 @@ use Rattle.definitions.specs.Lists.{joined}
 use Rattle.definitions.specs.Refusal.{accept}
 use Rattle.definitions.specs.Row.{Line}
 use Rattle.definitions.specs.Table.{Table, accepted, entries}
-use Rattle.definitions.specs.House.{houseLine, listedEntry}
+use Rattle.definitions.specs.House.{house_line, listed_entry}
 use Rattle.definitions.proofs.Columns.{joined-append, joined_snoc, Begins, Passed, passed_none, passed-all, passed-more}
 use Rattle.definitions.proofs.Columns.{Next, passed-next, passed-begins}
 use Rattle.laws.proofs.Puts.{Puts, puts_none, puts_then, puts-length, puts-as}
 use Rattle.columns.proofs.EntryLaws.{entry_at}
-use Rattle.house_measures.specs.Lines.{lineOn, lines_of}
+use Rattle.house_measures.specs.Lines.{line_on, lines_of}
 use Rattle.house_measures.proofs.RowsWalk.{by-columns, next-entry, no-entry}
 use Rattle.house.specs.Ready.{RowReady, RowsReady}
 
@@ -22,13 +22,13 @@ module _ (t : Table) (n : ℕ) where
   pub record Putting (first at : ℕ) (o : List ℕ) (i : ℕ) (out : List ℕ) (end : ℕ) : Type 0 where
     pub most : i ≤ n
     pub lines : List Line
-    pub rows : Passed (listedEntry first t) (take n (entries t)) i lines
-    pub puts : Puts (joined (houseLine first) lines) at o end out
+    pub rows : Passed (listed_entry first t) (take n (entries t)) i lines
+    pub puts : Puts (joined (house_line first) lines) at o end out
 
   pub putting-none : (first at : ℕ) (o : List ℕ) → Putting first at o 0 o at
   unfolding joined
   putting-none first at o =
-      record { most = omega arith; lines = []; rows = passed_none (listedEntry first t) (take n (entries t)); puts = puts_none at o }
+      record { most = omega arith; lines = []; rows = passed_none (listed_entry first t) (take n (entries t)); puts = puts_none at o }
 
   module _ {first at : ℕ} {o : List ℕ} (r : RowsReady first n t at o) {i : ℕ} {out : List ℕ} {end : ℕ}
       (p : Putting first at o i out end) where
@@ -36,30 +36,30 @@ module _ (t : Table) (n : ℕ) where
       here : drop i (take n (entries t)) ≡ entry_at t i ∷ drop (i + 1) (take n (entries t))
       here = next-entry t n i h (omega (arith, r.within))
 
-      abbrev next : Next (listedEntry first t) (take n (entries t)) i p.lines p.rows (entry_at t i) here r.lines r.are
-      next = passed-next (listedEntry first t) (take n (entries t)) i p.lines p.rows (entry_at t i) here r.lines r.are
+      abbrev next : Next (listed_entry first t) (take n (entries t)) i p.lines p.rows (entry_at t i) here r.lines r.are
+      next = passed-next (listed_entry first t) (take n (entries t)) i p.lines p.rows (entry_at t i) here r.lines r.are
 
-      more : Passed (listedEntry first t) (take n (entries t)) (i + 1) (p.lines ++ (next.value ∷ []))
+      more : Passed (listed_entry first t) (take n (entries t)) (i + 1) (p.lines ++ (next.value ∷ []))
       more =
-          passed-more (listedEntry first t) (take n (entries t)) i p.lines p.rows (entry_at t i) here next.value next.accepts
+          passed-more (listed_entry first t) (take n (entries t)) i p.lines p.rows (entry_at t i) here next.value next.accepts
 
       begins : Begins (p.lines ++ (next.value ∷ [])) r.lines
-      begins = passed-begins (listedEntry first t) (take n (entries t)) (i + 1) (p.lines ++ (next.value ∷ [])) more r.lines r.are
+      begins = passed-begins (listed_entry first t) (take n (entries t)) (i + 1) (p.lines ++ (next.value ∷ [])) more r.lines r.are
 
-      rooms : (at + (length (joined (houseLine first) p.lines) + length (houseLine first next.value)) ≤ length o)
+      rooms : (at + (length (joined (house_line first) p.lines) + length (house_line first next.value)) ≤ length o)
       rooms =
-          let text = joined (houseLine first) in
+          let text = joined (house_line first) in
           let pre = p.lines ++ (next.value ∷ []) in
           omega (
             arith,
             r.room,
-            ap length (ap text begins.is ∙ joined-append (houseLine first) pre begins.rest),
+            ap length (ap text begins.is ∙ joined-append (house_line first) pre begins.rest),
             length-append (text pre) (text begins.rest),
-            ap length (joined_snoc (houseLine first) p.lines next.value),
-            length-append (text p.lines) (houseLine first next.value),
+            ap length (joined_snoc (house_line first) p.lines next.value),
+            length-append (text p.lines) (house_line first next.value),
           )
 
-      accepts : lineOn first t.weights t.literals (entry_at t i) ≡ accept next.value
+      accepts : line_on first t.weights t.literals (entry_at t i) ≡ accept next.value
       accepts = sym (by-columns first t (entry_at t i)) ∙ next.accepts
 
       pub putting-ready : RowReady first t.weights t.literals (entry_at t i) end out
@@ -71,7 +71,7 @@ module _ (t : Table) (n : ℕ) where
           }
 
       pub putting-more : {out' : List ℕ} {end' : ℕ}
-          → ((l : Line) → lineOn first t.weights t.literals (entry_at t i) ≡ accept l → Puts (houseLine first l) end out end' out')
+          → ((l : Line) → line_on first t.weights t.literals (entry_at t i) ≡ accept l → Puts (house_line first l) end out end' out')
           → Putting first at o (i + 1) out' end'
       putting-more f =
           record {
@@ -80,11 +80,11 @@ module _ (t : Table) (n : ℕ) where
             rows = more;
             puts =
                 puts-as (puts_then p.puts (omega (arith, rooms)) (f next.value accepts))
-                (sym (joined_snoc (houseLine first) p.lines next.value));
+                (sym (joined_snoc (house_line first) p.lines next.value));
           }
 
-    pub putting-all : n ≤ i → (ls : List Line) → lines_of first n t ≡ accepted ls → Puts (joined (houseLine first) ls) at o end out
+    pub putting-all : n ≤ i → (ls : List Line) → lines_of first n t ≡ accepted ls → Puts (joined (house_line first) ls) at o end out
     putting-all h ls e =
-        let a = passed-all (listedEntry first t) (take n (entries t)) i p.lines p.rows (no-entry t n i (omega arith)) in
+        let a = passed-all (listed_entry first t) (take n (entries t)) i p.lines p.rows (no-entry t n i (omega arith)) in
         let q : p.lines ≡ ls = cc in
-        puts-as p.puts (ap (joined (houseLine first)) q)
+        puts-as p.puts (ap (joined (house_line first)) q)

@@ -2,11 +2,11 @@
 -- nothing.
 use Rattle.std.specs.Prelude.{ℕ, ◌≡◌, List, length}
 use Rattle.definitions.specs.Table.{Table}
-use Rattle.definitions.specs.Write.{length_of, outputAfter}
-use Rattle.definitions.specs.House.{listingTable}
-use Rattle.definitions.specs.Answers.{saidLength}
+use Rattle.definitions.specs.Write.{length_of, output_after}
+use Rattle.definitions.specs.House.{listing_table}
+use Rattle.definitions.specs.Answers.{said_length}
 use Rattle.definitions.specs.declared.Length.{Length}
 
 pub record Lists (first rows : ℕ) (t : Table) (o : List ℕ) (r : Length) (o' : List ℕ) : Type 0 where
-  pub answer : saidLength r ≡ length_of (listingTable first rows t (length o))
-  pub after : o' ≡ outputAfter (listingTable first rows t (length o)) o
+  pub answer : said_length r ≡ length_of (listing_table first rows t (length o))
+  pub after : o' ≡ output_after (listing_table first rows t (length o)) o

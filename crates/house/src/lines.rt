@@ -4,12 +4,12 @@ ghost use Rattle.std.specs.Prelude.{◌≡◌, List, ◌+◌, ◌≤◌, length}
 ghost use Rattle.definitions.specs.Lists.{joined};
 ghost use Rattle.definitions.specs.Refusal.{accept};
 ghost use Rattle.definitions.specs.Row.{Line, row, row_of};
-ghost use Rattle.definitions.specs.Table.{table, accepted, termsOn};
-ghost use Rattle.definitions.specs.House.{houseLine};
+ghost use Rattle.definitions.specs.Table.{table, accepted, terms_on};
+ghost use Rattle.definitions.specs.House.{house_line};
 ghost use Rattle.laws.proofs.Puts.{Puts};
-ghost use Rattle.columns.specs.Kinds.{readKind};
-ghost use Rattle.house_lengths.specs.Words.{headText, commentLine, wordField};
-ghost use Rattle.house_measures.specs.Lines.{lineOn, lines_of};
+ghost use Rattle.columns.specs.Kinds.{read_kind};
+ghost use Rattle.house_lengths.specs.Words.{head_text, comment_line, word_field};
+ghost use Rattle.house_measures.specs.Lines.{line_on, lines_of};
 ghost use Rattle.house.specs.Ready.{LineReady, RowReady, RowsReady};
 
 use crate::terms::put_terms;
@@ -18,8 +18,8 @@ use puts::{put_field, put_number, put_text};
 
 // "The first line is rows, terms, first index."
 pub(crate) fn put_head(rows: usize, terms: u64, first: u32, out: &mut [u8]) -> usize
-    requires { length (headText rows terms first) ≤ length out.old }
-    ensures { Puts (headText rows terms first) 0 out.old result out.new }
+    requires { length (head_text rows terms first) ≤ length out.old }
+    ensures { Puts (head_text rows terms first) 0 out.old result out.new }
 {
     let a = put_text(b"opb", out, 0);
     let b = put_field(rows as u64, out, a);
@@ -31,8 +31,8 @@ pub(crate) fn put_head(rows: usize, terms: u64, first: u32, out: &mut [u8]) -> u
 
 // "`c` gives the text's length."
 fn put_comment(count: usize, out: &mut [u8], at: usize) -> usize
-    requires { at + length (commentLine count) ≤ length out.old }
-    ensures { Puts (commentLine count) at out.old result out.new }
+    requires { at + length (comment_line count) ≤ length out.old }
+    ensures { Puts (comment_line count) at out.old result out.new }
 {
     out[at] = b'c';
     let end = put_field(count as u64, out, at + 1);
@@ -42,8 +42,8 @@ fn put_comment(count: usize, out: &mut [u8], at: usize) -> usize
 
 // The word of a kind, and the tab behind it.
 fn put_word(kind: u8, out: &mut [u8], at: usize) -> usize
-    requires { at + length (wordField (readKind kind)) ≤ length out.old }
-    ensures { Puts (wordField (readKind kind)) at out.old result out.new }
+    requires { at + length (word_field (read_kind kind)) ≤ length out.old }
+    ensures { Puts (word_field (read_kind kind)) at out.old result out.new }
 {
     match kind {
         AT_LEAST => put_text(b"ge\t", out, at),
@@ -64,7 +64,7 @@ fn put_line(
     at: usize,
 ) -> usize
     requires { LineReady first kind bound weights.now literals.now at out.old }
-    ensures { Puts (houseLine first (row (row_of (readKind kind) bound (termsOn weights.now literals.now)))) at out.old result out.new }
+    ensures { Puts (house_line first (row (row_of (read_kind kind) bound (terms_on weights.now literals.now)))) at out.old result out.new }
 {
     let a = put_word(kind, out, at);
     let b = put_number(bound, out, a);
@@ -85,8 +85,8 @@ fn put_row(
     at: usize,
 ) -> usize
     requires { RowReady first weights.now literals.now (record { kind = kind; first = start; count = count; bound = bound }) at out.old }
-    ensures { (l : Line) → lineOn first weights.now literals.now (record { kind = kind; first = start; count = count; bound = bound }) ≡ accept l
-        → Puts (houseLine first l) at out.old result out.new }
+    ensures { (l : Line) → line_on first weights.now literals.now (record { kind = kind; first = start; count = count; bound = bound }) ≡ accept l
+        → Puts (house_line first l) at out.old result out.new }
 {
     if kind == COMMENT {
         return put_comment(count, out, at);
@@ -117,7 +117,7 @@ pub(crate) fn put_rows(
 ) -> usize
     requires { RowsReady first rows (table kinds.now firsts.now counts.now bounds.now weights.now literals.now) at out.old }
     ensures { (ls : List Line) → lines_of first rows (table kinds.now firsts.now counts.now bounds.now weights.now literals.now) ≡ accepted ls
-        → Puts (joined (houseLine first) ls) at out.old result out.new }
+        → Puts (joined (house_line first) ls) at out.old result out.new }
 {
     let mut end = at;
     let mut i: usize = 0;

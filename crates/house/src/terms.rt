@@ -2,18 +2,18 @@
 ghost use Rattle.std.specs.Prelude.{◌+◌, ◌≤◌, length};
 ghost use Rattle.definitions.specs.Lists.{joined};
 ghost use Rattle.definitions.specs.Row.{term};
-ghost use Rattle.definitions.specs.Table.{termsOn};
-ghost use Rattle.definitions.specs.House.{field, termFields};
+ghost use Rattle.definitions.specs.Table.{terms_on};
+ghost use Rattle.definitions.specs.House.{field, term_fields};
 ghost use Rattle.laws.proofs.Puts.{Puts};
-ghost use Rattle.house_lengths.specs.Words.{literalWords, termWords};
+ghost use Rattle.house_lengths.specs.Words.{literal_words, term_words};
 ghost use Rattle.house.specs.Ready.{TermReady, TermsReady};
 
 use literals::{FileNumber, FileNumberRead, Lit};
 use puts::{put_count, put_number};
 
 fn put_literal(tilde: bool, n: FileNumber, out: &mut [u8], at: usize) -> usize
-    requires { at + length (field (literalWords tilde n.0)) ≤ length out.old }
-    ensures { Puts (field (literalWords tilde n.0)) at out.old result out.new }
+    requires { at + length (field (literal_words tilde n.0)) ≤ length out.old }
+    ensures { Puts (field (literal_words tilde n.0)) at out.old result out.new }
 {
     out[at] = b'\t';
     if tilde {
@@ -26,8 +26,8 @@ fn put_literal(tilde: bool, n: FileNumber, out: &mut [u8], at: usize) -> usize
 }
 
 fn put_fields(w: i64, tilde: bool, n: FileNumber, out: &mut [u8], at: usize) -> usize
-    requires { at + length (termWords w tilde n.0) ≤ length out.old }
-    ensures { Puts (termWords w tilde n.0) at out.old result out.new }
+    requires { at + length (term_words w tilde n.0) ≤ length out.old }
+    ensures { Puts (term_words w tilde n.0) at out.old result out.new }
 {
     out[at] = b'\t';
     let end = put_number(w, out, at + 1);
@@ -37,7 +37,7 @@ fn put_fields(w: i64, tilde: bool, n: FileNumber, out: &mut [u8], at: usize) -> 
 // A term whose variable has a file number, since the first walk has accepted it.
 fn put_term(w: i64, l: Lit, first: u32, out: &mut [u8], at: usize) -> usize
     requires { TermReady first w l.0 at out.old }
-    ensures { Puts (termFields first (term w l.0)) at out.old result out.new }
+    ensures { Puts (term_fields first (term w l.0)) at out.old result out.new }
 {
     match FileNumber::of(l.var(), first) {
         FileNumberRead::Is(n) => put_fields(w, l.is_neg(), n, out, at),
@@ -53,7 +53,7 @@ pub(crate) fn put_terms(
     at: usize,
 ) -> usize
     requires { TermsReady first weights.now literals.now at out.old }
-    ensures { Puts (joined (termFields first) (termsOn weights.now literals.now)) at out.old result out.new }
+    ensures { Puts (joined (term_fields first) (terms_on weights.now literals.now)) at out.old result out.new }
 {
     let mut end = at;
     let mut i: usize = 0;

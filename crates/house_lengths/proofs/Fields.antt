@@ -8,51 +8,51 @@ use native.Mathlib.Omega.{arith}
 use lib.IntN.{ℤ}
 use lib.ListN.{length, length-append}
 use Rattle.definitions.specs.Refusal.{needed, refuse, accept}
-use Rattle.definitions.specs.Number.{decimal, integerText}
-use Rattle.definitions.specs.Literal.{index_of, negated, fileNumber}
+use Rattle.definitions.specs.Number.{decimal, integer_text}
+use Rattle.definitions.specs.Literal.{index_of, negated, file_number}
 use Rattle.definitions.specs.Row.{term}
-use Rattle.definitions.specs.Write.{numberText, literalText, isAccepted}
-use Rattle.definitions.specs.House.{field, termFields}
+use Rattle.definitions.specs.Write.{number_text, literal_text, is_accepted}
+use Rattle.definitions.specs.House.{field, term_fields}
 use Rattle.laws.proofs.Puts.{needed-add, needed-both}
 use Rattle.definitions.proofs.Truths.{never}
 use Rattle.house_lengths.specs.declared.terms.TermLength.{TermLength}
 use Rattle.house_lengths.specs.declared.terms.TermLength.TheVariants as term-length
-use Rattle.house_lengths.specs.Words.{literalWords, termWords}
-use Rattle.house_lengths.specs.Lengths.{saidTermLength, termLength}
+use Rattle.house_lengths.specs.Words.{literal_words, term_words}
+use Rattle.house_lengths.specs.Lengths.{said_term_length, term_length}
 
 -- ---- one term
 
 -- a tab before each of the two fields
 pub term-fields-length : (first : ℕ) (w : ℤ) (c : ℕ)
-    → length (termFields first (term w c)) ≡ length (integerText w) + length (literalText first c) + 2
-unfolding termFields
-term-fields-length first w c = omega (arith, length-append (field (integerText w)) (field (literalText first c)))
+    → length (term_fields first (term w c)) ≡ length (integer_text w) + length (literal_text first c) + 2
+unfolding term_fields
+term-fields-length first w c = omega (arith, length-append (field (integer_text w)) (field (literal_text first c)))
 
 module _ (w : ℤ) (b : Bool) (n : ℕ) where
-  pub words-length : length (termWords w b n) ≡ length (integerText w) + length (literalWords b n) + 2
-  words-length = omega (arith, length-append (field (integerText w)) (field (literalWords b n)))
+  pub words-length : length (term_words w b n) ≡ length (integer_text w) + length (literal_words b n) + 2
+  words-length = omega (arith, length-append (field (integer_text w)) (field (literal_words b n)))
 
-  pub tilde-words-length : b ≡ true → length (termWords w b n) ≡ length (integerText w) + length (decimal n) + 4
-  tilde-words-length e = omega (arith, words-length, ap (λ (x : Bool). length (literalWords x n)) e)
+  pub tilde-words-length : b ≡ true → length (term_words w b n) ≡ length (integer_text w) + length (decimal n) + 4
+  tilde-words-length e = omega (arith, words-length, ap (λ (x : Bool). length (literal_words x n)) e)
 
-  pub plain-words-length : b ≡ false → length (termWords w b n) ≡ length (integerText w) + length (decimal n) + 3
-  plain-words-length e = omega (arith, words-length, ap (λ (x : Bool). length (literalWords x n)) e)
+  pub plain-words-length : b ≡ false → length (term_words w b n) ≡ length (integer_text w) + length (decimal n) + 3
+  plain-words-length e = omega (arith, words-length, ap (λ (x : Bool). length (literal_words x n)) e)
 
 -- a term by its literal's file number
 module _ (first : ℕ) (w : ℤ) (c : ℕ) where
-  pub term_words : (n : ℕ) → n ≡ index_of c + first → termWords w (negated c) n ≡ termFields first (term w c)
-  unfolding termFields literalText numberText
-  term_words n e = ap (λ (s : List ℕ). field (integerText w) ++ field s) (by (negated c))
+  pub term_words_lem : (n : ℕ) → n ≡ index_of c + first → term_words w (negated c) n ≡ term_fields first (term w c)
+  unfolding term_fields literal_text number_text
+  term_words_lem n e = ap (λ (s : List ℕ). field (integer_text w) ++ field s) (by (negated c))
     where
-      by : (b : Bool) → literalWords b n ≡ cond b (126 ∷ 120 ∷ decimal (index_of c + first)) (120 ∷ decimal (index_of c + first))
+      by : (b : Bool) → literal_words b n ≡ cond b (126 ∷ 120 ∷ decimal (index_of c + first)) (120 ∷ decimal (index_of c + first))
       by true = rw e
       by false = rw e
 
-  pub length-numbered : (n k : ℕ) → n ≡ index_of c + first → isAccepted (fileNumber first (index_of c)) ≡ true
-      → k ≡ length (termWords w (negated c) n) → accept k ≡ termLength first (term w c)
-  length-numbered n k e a l = rw a (ap accept (l ∙ ap length (term_words n e)))
+  pub length-numbered : (n k : ℕ) → n ≡ index_of c + first → is_accepted (file_number first (index_of c)) ≡ true
+      → k ≡ length (term_words w (negated c) n) → accept k ≡ term_length first (term w c)
+  length-numbered n k e a l = rw a (ap accept (l ∙ ap length (term_words_lem n e)))
 
-  pub length-unnumbered : isAccepted (fileNumber first (index_of c)) ≡ false → refuse 5 ≡ termLength first (term w c)
+  pub length-unnumbered : is_accepted (file_number first (index_of c)) ≡ false → refuse 5 ≡ term_length first (term w c)
   length-unnumbered a = rw a
 
 -- ---- lengths up to the limit of a needed number
@@ -66,19 +66,19 @@ module _ {A : Type 0} (s t : List A) {n m r : ℕ} (a : n ≡ needed (length s))
   needed-more-yet b e = e ∙ rw (a, b, needed-both, length-append s t)
 
 -- what is said of one term
-module _ (first : ℕ) (w : ℤ) (c : ℕ) (r : TermLength) (e : saidTermLength r ≡ termLength first (term w c)) where
+module _ (first : ℕ) (w : ℤ) (c : ℕ) (r : TermLength) (e : said_term_length r ≡ term_length first (term w c)) where
   pub counted_is : (n : ℕ) → r ≡ term-length.Is n
-      → (isAccepted (fileNumber first (index_of c)) ≡ true) × (n ≡ length (termFields first (term w c)))
-  counted_is n q = by (isAccepted (fileNumber first (index_of c))) (sym (ap saidTermLength q) ∙ e)
+      → (is_accepted (file_number first (index_of c)) ≡ true) × (n ≡ length (term_fields first (term w c)))
+  counted_is n q = by (is_accepted (file_number first (index_of c))) (sym (ap said_term_length q) ∙ e)
     where
-      by : (b : Bool) → accept n ≡ cond b (accept (length (termFields first (term w c)))) (refuse 5)
-          → (b ≡ true) × (n ≡ length (termFields first (term w c)))
+      by : (b : Bool) → accept n ≡ cond b (accept (length (term_fields first (term w c)))) (refuse 5)
+          → (b ≡ true) × (n ≡ length (term_fields first (term w c)))
       by true p = (refl, cc)
       by false p = never (cc)
 
-  pub counted_none : r ≡ term-length.OutOfRange → isAccepted (fileNumber first (index_of c)) ≡ false
-  counted_none q = by (isAccepted (fileNumber first (index_of c))) (sym (ap saidTermLength q) ∙ e)
+  pub counted_none : r ≡ term-length.OutOfRange → is_accepted (file_number first (index_of c)) ≡ false
+  counted_none q = by (is_accepted (file_number first (index_of c))) (sym (ap said_term_length q) ∙ e)
     where
-      by : (b : Bool) → refuse 5 ≡ cond b (accept (length (termFields first (term w c)))) (refuse 5) → b ≡ false
+      by : (b : Bool) → refuse 5 ≡ cond b (accept (length (term_fields first (term w c)))) (refuse 5) → b ≡ false
       by true p = never (cc)
       by false p = refl

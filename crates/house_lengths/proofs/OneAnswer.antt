@@ -3,12 +3,12 @@ use mathlib.Core.Path.{◌≡◌, refl, sym, ◌∙◌}
 use Rattle.definitions.proofs.Truths.{never}
 use Rattle.house_lengths.specs.declared.terms.TermLength.{TermLength}
 use Rattle.house_lengths.specs.declared.terms.TermLength.TheVariants as term-length
-use Rattle.house_lengths.specs.Lengths.{saidTermLength}
+use Rattle.house_lengths.specs.Lengths.{said_term_length}
 use Rattle.house_lengths.proofs.terms.term_length.Reads as length-of-term
 use Rattle.house_lengths.proofs.lines.line_length.Reads as line-length
 use Rattle.house_lengths.proofs.lines.text_length.Reads as text-length
 
-term-length-said : (r r' : TermLength) → saidTermLength r ≡ saidTermLength r' → r ≡ r'
+term-length-said : (r r' : TermLength) → said_term_length r ≡ said_term_length r' → r ≡ r'
 term-length-said (term-length.Is n) (term-length.Is m) e = cc
 term-length-said (term-length.Is n) term-length.OutOfRange e = never (cc)
 term-length-said term-length.OutOfRange (term-length.Is m) e = never (cc)

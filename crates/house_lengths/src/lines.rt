@@ -1,17 +1,17 @@
 // How long a row's line is, and the whole text. Assumes nothing.
 ghost use Rattle.std.specs.Prelude.{◌≡◌, ◌+◌, length};
 ghost use Rattle.definitions.specs.Refusal.{needed};
-ghost use Rattle.definitions.specs.Number.{integerText};
-ghost use Rattle.definitions.specs.House.{kindWord};
-ghost use Rattle.columns.specs.Kinds.{readKind};
-ghost use Rattle.house_lengths.specs.Words.{commentLine, wordField, headText};
-ghost use Rattle.house_lengths.specs.Lengths.{lineLength};
+ghost use Rattle.definitions.specs.Number.{integer_text};
+ghost use Rattle.definitions.specs.House.{kind_word};
+ghost use Rattle.columns.specs.Kinds.{read_kind};
+ghost use Rattle.house_lengths.specs.Words.{comment_line, word_field, head_text};
+ghost use Rattle.house_lengths.specs.Lengths.{line_length};
 
 use definitions::{AT_LEAST, AT_MOST, COMMENT, EQUAL};
 use lengths::add_needed;
 
 fn word_length(kind: u8) -> usize
-    ensures { result ≡ length (kindWord (readKind kind)) }
+    ensures { result ≡ length (kind_word (read_kind kind)) }
 {
     match kind {
         AT_LEAST | AT_MOST | EQUAL => 2,
@@ -21,7 +21,7 @@ fn word_length(kind: u8) -> usize
 
 // `c`, a tab, the length of the text and an LF.
 fn comment_length(count: usize) -> u64
-    ensures { result ≡ needed (length (commentLine count)) }
+    ensures { result ≡ needed (length (comment_line count)) }
 {
     let length = 3 + lengths::count_length(count as u64);
     length as u64
@@ -29,7 +29,7 @@ fn comment_length(count: usize) -> u64
 
 // Behind the word stand a tab, the bound, the terms and an LF.
 fn row_length(kind: u8, bound: i64, terms: u64) -> u64
-    ensures { result ≡ needed (terms + (length (wordField (readKind kind)) + (length (integerText bound) + 1))) }
+    ensures { result ≡ needed (terms + (length (word_field (read_kind kind)) + (length (integer_text bound) + 1))) }
 {
     let more = word_length(kind) + lengths::number_length(bound) + 2;
     add_needed(terms, more as u64)
@@ -37,7 +37,7 @@ fn row_length(kind: u8, bound: i64, terms: u64) -> u64
 
 // The length of a row's line, from the length of its terms' fields.
 pub fn line_length(kind: u8, count: usize, bound: i64, terms: u64) -> u64
-    ensures { result ≡ lineLength kind count bound terms }
+    ensures { result ≡ line_length kind count bound terms }
 {
     if kind == COMMENT {
         return comment_length(count);
@@ -47,7 +47,7 @@ pub fn line_length(kind: u8, count: usize, bound: i64, terms: u64) -> u64
 
 // The length with the head: `opb`, three tabs, rows, terms, first index and an LF. The lines have the length `lines`.
 pub fn text_length(rows: usize, terms: u64, lines: u64, first: u32) -> u64
-    ensures { result ≡ needed (lines + length (headText rows terms first)) }
+    ensures { result ≡ needed (lines + length (head_text rows terms first)) }
 {
     let counts = lengths::count_length(rows as u64) + lengths::count_length(terms);
     let head = 7 + counts + lengths::count_length(first as u64);

@@ -3,10 +3,10 @@ use mathlib.Core.Path.{◌≡◌, sym, ap, ◌∙◌}
 use Rattle.definitions.proofs.Truths.{never}
 use Rattle.house_measures.specs.declared.rows.Measured.{Measured}
 use Rattle.house_measures.specs.declared.rows.Measured.TheVariants as measured
-use Rattle.house_measures.specs.Sizes.{Sizes, saidMeasured}
+use Rattle.house_measures.specs.Sizes.{Sizes, said_measured}
 use Rattle.house_measures.proofs.rows.measure_rows.Reads as measure-rows
 
-pub measured-known : (r r' : Measured) → saidMeasured r ≡ saidMeasured r' → r ≡ r'
+pub measured-known : (r r' : Measured) → said_measured r ≡ said_measured r' → r ≡ r'
 measured-known (measured.Lines n s) (measured.Lines m t) e =
     let z : ◌≡◌ {A = Sizes} (record { rows = n; all = s }) (record { rows = m; all = t }) = cc in
     let p : n ≡ m = ap (λ (x : Sizes). x.rows) z in

@@ -2,8 +2,8 @@
 // nothing.
 ghost use Rattle.std.specs.Prelude.{◌≡◌, ◌<◌, length};
 ghost use Rattle.definitions.specs.Table.{table};
-ghost use Rattle.house_measures.specs.Lines.{rowOn, lineOn, lines_of};
-ghost use Rattle.house_measures.specs.Sizes.{saidSize, sizeIn, saidMeasured, sizesIn};
+ghost use Rattle.house_measures.specs.Lines.{row_on, line_on, lines_of};
+ghost use Rattle.house_measures.specs.Sizes.{said_size, size_in, said_measured, sizes_in};
 
 use crate::terms::{TermsLength, terms_length};
 use definitions::{COMMENT, OBJECTIVE, Refusal};
@@ -40,7 +40,7 @@ pub enum Measured {
 // A row of a read kind, whose terms lie in their columns: the rest of 11, then 5.
 fn measure_line(kind: u8, bound: i64, weights: &[i64], literals: &[u32], first: u32) -> RowSize
     requires { (0 < kind) × (length weights.now ≡ length literals.now) }
-    ensures { saidSize result ≡ sizeIn first (rowOn first kind bound weights.now literals.now) }
+    ensures { said_size result ≡ size_in first (row_on first kind bound weights.now literals.now) }
 {
     if !term_checks::indexed_of(literals) {
         return RowSize::Refused(NO_ROW);
@@ -64,7 +64,7 @@ fn measure_row(
     literals: &[u32],
     first: u32,
 ) -> RowSize
-    ensures { saidSize result ≡ sizeIn first (lineOn first weights.now literals.now (record { kind = kind; first = start; count = count; bound = bound })) }
+    ensures { said_size result ≡ size_in first (line_on first weights.now literals.now (record { kind = kind; first = start; count = count; bound = bound })) }
 {
     if kind == COMMENT {
         return RowSize::Is(Size {
@@ -99,7 +99,7 @@ pub fn measure_rows(
     rows: usize,
     first: u32,
 ) -> Measured
-    ensures { saidMeasured result ≡ sizesIn first (lines_of first rows (table kinds.now firsts.now counts.now bounds.now weights.now literals.now)) }
+    ensures { said_measured result ≡ sizes_in first (lines_of first rows (table kinds.now firsts.now counts.now bounds.now weights.now literals.now)) }
 {
     let n = columns::lesser(rows, columns::row_room(kinds, firsts, counts, bounds));
     let mut all = Size {

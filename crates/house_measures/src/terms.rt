@@ -1,7 +1,7 @@
 // The length of the fields of a row's terms. Assumes nothing.
 ghost use Rattle.std.specs.Prelude.{◌≡◌, length};
-ghost use Rattle.definitions.specs.Table.{termsOn};
-ghost use Rattle.house_measures.specs.Sizes.{termsLength, saidTermsLength};
+ghost use Rattle.definitions.specs.Table.{terms_on};
+ghost use Rattle.house_measures.specs.Sizes.{terms_length, said_terms_length};
 
 use house_lengths::TermLength;
 use lengths::add_needed;
@@ -16,7 +16,7 @@ pub(crate) enum TermsLength {
 
 pub(crate) fn terms_length(weights: &[i64], literals: &[u32], first: u32) -> TermsLength
     requires { length weights.now ≡ length literals.now }
-    ensures { saidTermsLength result ≡ termsLength first (termsOn weights.now literals.now) }
+    ensures { said_terms_length result ≡ terms_length first (terms_on weights.now literals.now) }
 {
     let mut total: u64 = 0;
     let mut i: usize = 0;

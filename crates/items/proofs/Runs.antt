@@ -9,60 +9,60 @@ use native.Mathlib.Numerals.{add-one}
 use lib.Dec.{eqb}
 use lib.ListN.{length, get_or, take, drop, drop_of_length-le}
 use lib.Seq.{drop-cons}
-use Rattle.definitions.specs.Values.{frontOf, among}
+use Rattle.definitions.specs.Values.{front_of, among}
 
-pub front-more : (t : ℕ → Bool) (b : ℕ) (s : List ℕ) → t b ≡ true → frontOf t (b ∷ s) ≡ b ∷ frontOf t s
-unfolding frontOf
-front-more t b s e = rw (e, frontOf)
+pub front-more : (t : ℕ → Bool) (b : ℕ) (s : List ℕ) → t b ≡ true → front_of t (b ∷ s) ≡ b ∷ front_of t s
+unfolding front_of
+front-more t b s e = rw (e, front_of)
 
-pub front-none : (t : ℕ → Bool) (b : ℕ) (s : List ℕ) → t b ≡ false → frontOf t (b ∷ s) ≡ []
-unfolding frontOf
-front-none t b s e = rw (e, frontOf)
+pub front-none : (t : ℕ → Bool) (b : ℕ) (s : List ℕ) → t b ≡ false → front_of t (b ∷ s) ≡ []
+unfolding front_of
+front-none t b s e = rw (e, front_of)
 
 -- the run is the front of the list, as far as it is long
-pub front-within : (t : ℕ → Bool) (s : List ℕ) → length (frontOf t s) ≤ length s
-unfolding frontOf
+pub front-within : (t : ℕ → Bool) (s : List ℕ) → length (front_of t s) ≤ length s
+unfolding front_of
 front-within t [] = omega arith
 front-within t (b ∷ s) = cases (t b) refl (front-within t s)
   where
-    cases : (x : Bool) → t b ≡ x → length (frontOf t s) ≤ length s → length (frontOf t (b ∷ s)) ≤ length (b ∷ s)
+    cases : (x : Bool) → t b ≡ x → length (front_of t s) ≤ length s → length (front_of t (b ∷ s)) ≤ length (b ∷ s)
     cases true e h = rw (front-more t b s e) (omega arith)
     cases false e h = rw (front-none t b s e) (omega arith)
 
-pub front-take : (t : ℕ → Bool) (s : List ℕ) → take (length (frontOf t s)) s ≡ frontOf t s
-unfolding frontOf
+pub front-take : (t : ℕ → Bool) (s : List ℕ) → take (length (front_of t s)) s ≡ front_of t s
+unfolding front_of
 front-take t [] = refl
 front-take t (b ∷ s) = cases (t b) refl (front-take t s)
   where
-    cases : (x : Bool) → t b ≡ x → take (length (frontOf t s)) s ≡ frontOf t s
-        → take (length (frontOf t (b ∷ s))) (b ∷ s) ≡ frontOf t (b ∷ s)
+    cases : (x : Bool) → t b ≡ x → take (length (front_of t s)) s ≡ front_of t s
+        → take (length (front_of t (b ∷ s))) (b ∷ s) ≡ front_of t (b ∷ s)
     cases true e h = rw (front-more t b s e) (ap (λ (l : List ℕ). b ∷ l) h)
     cases false e h = rw (front-none t b s e)
 
 -- the test holds for the first i bytes
 pub record Passed (t : ℕ → Bool) (s : List ℕ) (i : ℕ) : Type 0 where
   pub within : i ≤ length s
-  pub count : length (frontOf t s) ≡ i + length (frontOf t (drop i s))
+  pub count : length (front_of t s) ≡ i + length (front_of t (drop i s))
 
 pub passed_none : (t : ℕ → Bool) (s : List ℕ) → Passed t s 0
 passed_none t s = record { within = omega arith; count = omega arith }
 
 module _ (t : ℕ → Bool) (s : List ℕ) (i : ℕ) (p : Passed t s i) where
-  pub passed-all : length s ≤ i → i ≡ length (frontOf t s)
-  unfolding frontOf
+  pub passed-all : length s ≤ i → i ≡ length (front_of t s)
+  unfolding front_of
   passed-all h =
-      let z : length (frontOf t (drop i s)) ≡ 0 = rw (drop_of_length-le s h) in
+      let z : length (front_of t (drop i s)) ≡ 0 = rw (drop_of_length-le s h) in
       omega (arith, p.count)
 
   module _ (h : i < length s) where
-    pub passed-end : t (get_or s i 0) ≡ false → i ≡ length (frontOf t s)
+    pub passed-end : t (get_or s i 0) ≡ false → i ≡ length (front_of t s)
     passed-end e =
-        let z : length (frontOf t (drop i s)) ≡ 0 = rw (drop-cons s i 0 h, front-none t (get_or s i 0) (drop (suc i) s) e) in
+        let z : length (front_of t (drop i s)) ≡ 0 = rw (drop-cons s i 0 h, front-none t (get_or s i 0) (drop (suc i) s) e) in
         omega (arith, p.count)
 
     pub passed-more : t (get_or s i 0) ≡ true → Passed t s (i + 1)
     passed-more e =
-        let z : length (frontOf t (drop i s)) ≡ suc (length (frontOf t (drop (suc i) s))) =
+        let z : length (front_of t (drop i s)) ≡ suc (length (front_of t (drop (suc i) s))) =
         rw (drop-cons s i 0 h, front-more t (get_or s i 0) (drop (suc i) s) e) in
         rw add-one (record { within = h; count = omega (arith, p.count) })
 

@@ -1,6 +1,6 @@
 -- What is met next in a block, and what the answers of src/lib.rt say of it.
 use Rattle.std.specs.Prelude.{ℕ, ◌+◌, Bool, true, false, List, [], ◌∷◌, length, drop}
-use Rattle.definitions.specs.Values.{isSolid, frontOf, Item, untagged, token, Spot, front, between, itemsFrom}
+use Rattle.definitions.specs.Values.{is_solid, front_of, Item, untagged, token, Spot, front, between, items_from}
 use Rattle.items.specs.declared.Sought.{Sought}
 use Rattle.items.specs.declared.Sought.TheVariants as sought
 use Rattle.items.specs.declared.NextItem.{NextItem}
@@ -15,35 +15,35 @@ pub data Found : Type 0 where
   nothing : Found
   line word : ℕ → Found
 
-abbrev pub soughtOf : List Item → Found
-soughtOf [] = nothing
-soughtOf (untagged p ∷ is) = line p
-soughtOf (token p s ∷ is) = word p
+abbrev pub sought_of : List Item → Found
+sought_of [] = nothing
+sought_of (untagged p ∷ is) = line p
+sought_of (token p s ∷ is) = word p
 
 -- from the offset on, which is at a line's front or not
 abbrev pub found_from : Bool → ℕ → List ℕ → Found
-found_from opens from block = soughtOf (itemsFrom (spot_of opens) from (drop from block))
+found_from opens from block = sought_of (items_from (spot_of opens) from (drop from block))
 
-abbrev pub saidSought : Sought → Found
-saidSought sought.End = nothing
-saidSought (sought.Untagged p) = line p
-saidSought (sought.Token p) = word p
+abbrev pub said_sought : Sought → Found
+said_sought sought.End = nothing
+said_sought (sought.Untagged p) = line p
+said_sought (sought.Token p) = word p
 
 -- ---- the same with a token's end
 
 -- the bytes of the token at place
-abbrev pub textAt : List ℕ → ℕ → List ℕ
-textAt block place = frontOf isSolid (drop place block)
+abbrev pub text_at : List ℕ → ℕ → List ℕ
+text_at block place = front_of is_solid (drop place block)
 
 -- the offset behind it
 abbrev pub end_at : List ℕ → ℕ → ℕ
-end_at block place = place + length (textAt block place)
+end_at block place = place + length (text_at block place)
 
 -- behind a token no line begins before its LF: the items from its end on
-abbrev pub onFrom : List ℕ → ℕ → List Item
-onFrom block end = itemsFrom between end (drop end block)
+abbrev pub on_from : List ℕ → ℕ → List Item
+on_from block end = items_from between end (drop end block)
 
-abbrev pub itemBy : List ℕ → Found → NextItem
-itemBy block nothing = item.End
-itemBy block (line p) = item.Untagged p
-itemBy block (word p) = item.Token p (end_at block p)
+abbrev pub item_by : List ℕ → Found → NextItem
+item_by block nothing = item.End
+item_by block (line p) = item.Untagged p
+item_by block (word p) = item.Token p (end_at block p)

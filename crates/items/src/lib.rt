@@ -1,7 +1,7 @@
 // What is met next in a block of value lines (02, A1): a line without `v`, a token, or the end. Assumes nothing.
 ghost use Rattle.std.specs.Prelude.{◌≡◌, length};
-ghost use Rattle.definitions.specs.Values.{isWhite, isSolid, frontOf};
-ghost use Rattle.items.specs.Items.{found_from, saidSought, itemBy};
+ghost use Rattle.definitions.specs.Values.{is_white, is_solid, front_of};
+ghost use Rattle.items.specs.Items.{found_from, said_sought, item_by};
 
 // The offset of the line's, or the token's, first byte.
 #[derive(Drop)]
@@ -21,7 +21,7 @@ pub enum NextItem {
 
 // "the six ASCII white space bytes only (9 to 13 and 32)"
 fn is_white(b: u8) -> bool
-    ensures { result ≡ isWhite b }
+    ensures { result ≡ is_white b }
 {
     match b {
         9..=13 | 32 => true,
@@ -31,7 +31,7 @@ fn is_white(b: u8) -> bool
 
 // How many bytes the token at the front has.
 fn solid_run(s: &[u8]) -> usize
-    ensures { result ≡ length (frontOf isSolid s.now) }
+    ensures { result ≡ length (front_of is_solid s.now) }
 {
     let mut i: usize = 0;
     while i < s.len() {
@@ -46,7 +46,7 @@ fn solid_run(s: &[u8]) -> usize
 // From the offset `from` on, which is at a line's front or not: "Lines are parted by LF"; the `v` needs no blank behind
 // it.
 fn seek(block: &[u8], from: usize, front: bool) -> Sought
-    ensures { saidSought result ≡ found_from front from block.now }
+    ensures { said_sought result ≡ found_from front from block.now }
 {
     let mut at = from;
     let mut opens = front;
@@ -69,7 +69,7 @@ fn seek(block: &[u8], from: usize, front: bool) -> Sought
 
 // From the offset `from` on, which is at a line's front or not: nothing, where it lies behind the block.
 pub fn next_item(block: &[u8], from: usize, front: bool) -> NextItem
-    ensures { result ≡ itemBy block.now (found_from front from block.now) }
+    ensures { result ≡ item_by block.now (found_from front from block.now) }
 {
     match seek(block, from, front) {
         Sought::End => NextItem::End,

@@ -7,7 +7,7 @@ use lib.ListN.{length}
 use lib.IntN.{ℤ, pos, negsuc}
 use mir.Syntax.{w64}
 use mir.Val.{SFits}
-use Rattle.definitions.specs.Number.{decimal, integerText}
+use Rattle.definitions.specs.Number.{decimal, integer_text}
 use Rattle.definitions.proofs.Numbers.{decimal-length-small, decimal-length-big}
 
 -- ten times as much n times
@@ -28,7 +28,7 @@ pub count-length-most : (n : ℕ) → n < 2 ^ 64 → length (decimal n) ≤ 20
 unfolding tens
 count-length-most n h = no_longer 19 n (omega arith)
 
-pub number-length-most : (z : ℤ) → SFits w64 z → length (integerText z) ≤ 20
+pub number-length-most : (z : ℤ) → SFits w64 z → length (integer_text z) ≤ 20
 unfolding tens
 number-length-most (pos n) f = omega (arith, no_longer 18 n (omega (arith, f.sfits)))
 number-length-most (negsuc n) f = omega (arith, no_longer 18 (suc n) (omega (arith, f.sfits)))

@@ -8,20 +8,20 @@ use Rattle.definitions.specs.Table.{Table, Outcome, refused, accepted}
 use Rattle.definitions.specs.Accepts.{number_of, Accepted, Tells}
 use Rattle.definitions.specs.File.{file, reading}
 use Rattle.definitions.specs.Normal.{normalising}
-use Rattle.definitions.specs.Evaluate.{evaluating, evaluatingKnown, judging}
+use Rattle.definitions.specs.Evaluate.{evaluating, evaluating_known, judging}
 use Rattle.definitions.specs.Write.{writing}
-use Rattle.definitions.specs.House.{listingTable}
+use Rattle.definitions.specs.House.{listing_table}
 use Rattle.definitions.specs.Values.{valuing}
 use Rattle.definitions.specs.declared.Refusal.{Refusal}
 use Rattle.definitions.specs.declared.Options.{Options}
 use Rattle.definitions.specs.declared.Mode.{Mode}
 use Rattle.definitions.proofs.Truths.{never}
-use Rattle.laws.proofs.Refusals.{inOutcome, file-in, reading-in, normalising-in, evaluating-in, evaluating-known-in}
+use Rattle.laws.proofs.Refusals.{in_outcome, file-in, reading-in, normalising-in, evaluating-in, evaluating-known-in}
 use Rattle.laws.proofs.Refusals.{judging-in}
 use Rattle.laws.proofs.Refusals.{valuing-in, writing-in, listing-in}
 
-refused-tells : {A : Type 0} (r : Refusal) → inOutcome {A = A} (refused r) ≡ true → Tells {A = A} r.number (refused r)
-unfolding inOutcome
+refused-tells : {A : Type 0} (r : Refusal) → in_outcome {A = A} (refused r) ≡ true → Tells {A = A} r.number (refused r)
+unfolding in_outcome
 refused-tells {A} r h = record { of_zero = λ e. zero e; of-accepted = λ x. taken x }
   where
     zero : r.number ≡ 0 → Accepted {A = A} (refused r)
@@ -30,7 +30,7 @@ refused-tells {A} r h = record { of_zero = λ e. zero e; of-accepted = λ x. tak
     taken : Accepted {A = A} (refused r) → r.number ≡ 0
     taken x = let q = x.is in never cc
 
-number-tells : {A : Type 0} (x : Outcome A) → inOutcome x ≡ true → Tells (number_of x) x
+number-tells : {A : Type 0} (x : Outcome A) → in_outcome x ≡ true → Tells (number_of x) x
 number-tells (refused r) h = refused-tells r h
 number-tells (accepted a) h = record { of_zero = λ e. record { found = a; is = refl }; of-accepted = λ x. refl }
 
@@ -46,8 +46,8 @@ normalising-tells t o = number-tells (normalising t o) (normalising-in t o)
 pub evaluating-tells : (t : Table) (i : ℕ) (ws : List ℕ) → Tells (number_of (evaluating t i ws)) (evaluating t i ws)
 evaluating-tells t i ws = number-tells (evaluating t i ws) (evaluating-in t i ws)
 
-pub evaluating-known-tells : (t : Table) (i : ℕ) (ws ks : List ℕ) → Tells (number_of (evaluatingKnown t i ws ks)) (evaluatingKnown t i ws ks)
-evaluating-known-tells t i ws ks = number-tells (evaluatingKnown t i ws ks) (evaluating-known-in t i ws ks)
+pub evaluating-known-tells : (t : Table) (i : ℕ) (ws ks : List ℕ) → Tells (number_of (evaluating_known t i ws ks)) (evaluating_known t i ws ks)
+evaluating-known-tells t i ws ks = number-tells (evaluating_known t i ws ks) (evaluating-known-in t i ws ks)
 
 pub judging-tells : (t : Table) (i : ℕ) (ws ks : List ℕ) → Tells (number_of (judging t i ws ks)) (judging t i ws ks)
 judging-tells t i ws ks = number-tells (judging t i ws ks) (judging-in t i ws ks)
@@ -58,5 +58,5 @@ valuing-tells s n ws ks = number-tells (valuing s n ws ks) (valuing-in s n ws ks
 pub writing-tells : (m : Mode) (t : Table) (text : List ℕ) (room : ℕ) → Tells (number_of (writing m t text room)) (writing m t text room)
 writing-tells m t text room = number-tells (writing m t text room) (writing-in m t text room)
 
-pub listing-tells : (first n : ℕ) (t : Table) (room : ℕ) → Tells (number_of (listingTable first n t room)) (listingTable first n t room)
-listing-tells first n t room = number-tells (listingTable first n t room) (listing-in first n t room)
+pub listing-tells : (first n : ℕ) (t : Table) (room : ℕ) → Tells (number_of (listing_table first n t room)) (listing_table first n t room)
+listing-tells first n t room = number-tells (listing_table first n t room) (listing-in first n t room)

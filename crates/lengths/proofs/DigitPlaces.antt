@@ -12,7 +12,7 @@ use mir.Val.{bool_byte}
 use borrow.Author.Tests.{le-leb, lt-leb}
 use Rattle.definitions.specs.Number.{decimal}
 use Rattle.definitions.proofs.Numbers.{decimal-small, decimal-big}
-use Rattle.lengths.specs.Places.{fourDigits, behind, places_of}
+use Rattle.lengths.specs.Places.{four_digits, behind, places_of}
 use Rattle.lengths.specs.declared.Places.{Places}
 
 -- ---- where they stand
@@ -50,7 +50,7 @@ three-digits m h l =
     let e : m / 10 / 10 ≡ m / 100 = omega arith in
     decimal-big m (omega arith) ∙ rw (two_digits (m / 10) (omega arith) (omega arith), e)
 
-four-digits : (m : ℕ) → 1000 ≤ m → m < 10_000 → decimal m ≡ fourDigits m
+four-digits : (m : ℕ) → 1000 ≤ m → m < 10_000 → decimal m ≡ four_digits m
 four-digits m h l =
     let e : m / 10 / 10 ≡ m / 100 = omega arith in
     let f : m / 10 / 100 ≡ m / 1000 = omega arith in
@@ -61,7 +61,7 @@ pub few-is {ℓ} : (P : ℕ → ℕ → ℕ → List ℕ → Type ℓ) (m : ℕ)
     → P 0 0 0 ((48 + m % 10) ∷ [])
     → P 0 0 1 ((48 + m / 10 % 10) ∷ (48 + m % 10) ∷ [])
     → P 0 1 2 ((48 + m / 100 % 10) ∷ (48 + m / 10 % 10) ∷ (48 + m % 10) ∷ [])
-    → P 1 2 3 (fourDigits m)
+    → P 1 2 3 (four_digits m)
     → P (places_of m).hundreds (places_of m).tens (places_of m).ones (decimal m)
 few-is P m l p₁ p₂ p₃ p₄ = by (dec_lt m 10) (dec_lt m 100) (dec_lt m 1000)
   where

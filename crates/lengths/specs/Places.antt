@@ -3,8 +3,8 @@ use Rattle.std.specs.Prelude.{ℕ, ◌+◌, ◌/◌, ◌%◌, Bool, cond, List, 
 use Rattle.lengths.specs.declared.Places.{Places}
 
 -- its four digits, zeros in front included
-abbrev pub fourDigits : ℕ → List ℕ
-fourDigits m = (48 + m / 1000) ∷ (48 + m / 100 % 10) ∷ (48 + m / 10 % 10) ∷ (48 + m % 10) ∷ []
+abbrev pub four_digits : ℕ → List ℕ
+four_digits m = (48 + m / 1000) ∷ (48 + m / 100 % 10) ∷ (48 + m / 10 % 10) ∷ (48 + m % 10) ∷ []
 
 -- the place, or the next one where one more digit stands before it
 abbrev pub behind : ℕ → Bool → ℕ

@@ -1,6 +1,6 @@
 // How long a printed number is, where its digits stand, and lengths added up as needed numbers. Assumes nothing.
 ghost use Rattle.std.specs.Prelude.{◌≡◌, ◌+◌, length};
-ghost use Rattle.definitions.specs.Number.{decimal, integerText};
+ghost use Rattle.definitions.specs.Number.{decimal, integer_text};
 ghost use Rattle.definitions.specs.Refusal.{needed};
 ghost use Rattle.lengths.specs.Places.{places_of};
 
@@ -67,7 +67,7 @@ pub fn count_length(m: u64) -> usize
 }
 
 pub fn number_length(z: i64) -> usize
-    ensures { result ≡ length (integerText z) }
+    ensures { result ≡ length (integer_text z) }
 {
     let n = count_length(numbers::magnitude(z));
     if z < 0 { n + 1 } else { n }

@@ -17,29 +17,29 @@ use Rattle.outputs.specs.declared.Put.{Put}
 use Rattle.outputs.specs.declared.Put.TheVariants.{Done, Full}
 use Rattle.puts.specs.Lands.{Lands}
 use Rattle.puts.proofs.LandLaws.{stays, puts-land, byte-before}
-use Rattle.shown.specs.Terms.{literalWords}
+use Rattle.shown.specs.Terms.{literal_words}
 
 -- how far behind the space the `x` stands
-abbrev pub crossAt : Bool → ℕ
-crossAt true = 2
-crossAt false = 1
+abbrev pub cross_at : Bool → ℕ
+cross_at true = 2
+cross_at false = 1
 
-words-length : (tilde : Bool) (n : ℕ) → length (literalWords tilde n) ≡ crossAt tilde + 1 + length (decimal n)
+words-length : (tilde : Bool) (n : ℕ) → length (literal_words tilde n) ≡ cross_at tilde + 1 + length (decimal n)
 words-length true n = omega arith
 words-length false n = omega arith
 
-pub no_place : (tilde : Bool) (n at : ℕ) (o : List ℕ) → length o ≤ at → Lands (literalWords tilde n) at o at o
-no_place true n at o h = stays (literalWords true n) at o (omega (arith, words-length true n))
-no_place false n at o h = stays (literalWords false n) at o (omega (arith, words-length false n))
+pub no_place : (tilde : Bool) (n at : ℕ) (o : List ℕ) → length o ≤ at → Lands (literal_words tilde n) at o at o
+no_place true n at o h = stays (literal_words true n) at o (omega (arith, words-length true n))
+no_place false n at o h = stays (literal_words false n) at o (omega (arith, words-length false n))
 
-module _ (tilde : Bool) (n at x : ℕ) (is : x ≡ crossAt tilde) (o o₁ : List ℕ) (p : Put) (f : Prints (decimal n) (at + x + 1) o p o₁) where
-  pub no-number-put : p ≡ Full → Lands (literalWords tilde n) at o at o₁
+module _ (tilde : Bool) (n at x : ℕ) (is : x ≡ cross_at tilde) (o o₁ : List ℕ) (p : Put) (f : Prints (decimal n) (at + x + 1) o p o₁) where
+  pub no-number-put : p ≡ Full → Lands (literal_words tilde n) at o at o₁
   no-number-put q = by (dec_le (at + x + 1 + length (decimal n)) (length o))
     where
-      by : Dec (at + x + 1 + length (decimal n) ≤ length o) → Lands (literalWords tilde n) at o at o₁
+      by : Dec (at + x + 1 + length (decimal n) ≤ length o) → Lands (literal_words tilde n) at o at o₁
       by (yes h) = put_full (decimal n) (at + x + 1) o h (sym (ap put q) ∙ f.answer)
       by (no h) =
-          let s = stays (literalWords tilde n) at o (omega (arith, is, words-length tilde n)) in
+          let s = stays (literal_words tilde n) at o (omega (arith, is, words-length tilde n)) in
           record { place = s.place; after = f.after ∙ put-in-full (decimal n) (at + x + 1) o (omega arith) ∙ s.after }
 
   module _ (e : ℕ) (q : p ≡ Done e) where
@@ -62,7 +62,7 @@ module _ (n at : ℕ) (o : List ℕ) where
   digits = decimal n
 
   tilde-before : at + 3 + length digits ≤ length o
-      → set (set (set (placed digits (at + 2 + 1) o) (at + 1) 126) (at + 2) 120) at 32 ≡ placed (literalWords true n) at o
+      → set (set (set (placed digits (at + 2 + 1) o) (at + 1) 126) (at + 2) 120) at 32 ≡ placed (literal_words true n) at o
   tilde-before h =
       let two : at + 2 ≡ at + 1 + 1 = omega arith in
       ap (λ (l : List ℕ). set l at 32)
@@ -73,23 +73,23 @@ module _ (n at : ℕ) (o : List ℕ) where
       ∙ byte-before 32 (126 ∷ 120 ∷ digits) at o (omega arith)
 
   cross-before : at + 2 + length digits ≤ length o
-      → set (set (set (placed digits (at + 1 + 1) o) (at + 1) 126) (at + 1) 120) at 32 ≡ placed (literalWords false n) at o
+      → set (set (set (placed digits (at + 1 + 1) o) (at + 1) 126) (at + 1) 120) at 32 ≡ placed (literal_words false n) at o
   cross-before h =
       ap (λ (l : List ℕ). set l at 32)
       (set-set (placed digits (at + 1 + 1) o) (at + 1) 126 120 ∙ byte-before 120 digits (at + 1) o (omega arith))
       ∙ byte-before 32 (120 ∷ digits) at o (omega arith)
 
-  all-before : (tilde : Bool) (x : ℕ) → x ≡ crossAt tilde → at + x + 1 + length digits ≤ length o
-      → set (set (set (placed digits (at + x + 1) o) (at + 1) 126) (at + x) 120) at 32 ≡ placed (literalWords tilde n) at o
+  all-before : (tilde : Bool) (x : ℕ) → x ≡ cross_at tilde → at + x + 1 + length digits ≤ length o
+      → set (set (set (placed digits (at + x + 1) o) (at + 1) 126) (at + x) 120) at 32 ≡ placed (literal_words tilde n) at o
   all-before true x e h = rw e (tilde-before (omega (arith, e)))
   all-before false x e h = rw e (cross-before (omega (arith, e)))
 
-module _ (tilde : Bool) (n at x : ℕ) (is : x ≡ crossAt tilde) (o o₁ : List ℕ) (p : Put) (f : Prints (decimal n) (at + x + 1) o p o₁) where
-  pub literal-put : (e : ℕ) → p ≡ Done e → Lands (literalWords tilde n) at o e (set (set (set o₁ (at + 1) 126) (at + x) 120) at 32)
+module _ (tilde : Bool) (n at x : ℕ) (is : x ≡ cross_at tilde) (o o₁ : List ℕ) (p : Put) (f : Prints (decimal n) (at + x + 1) o p o₁) where
+  pub literal-put : (e : ℕ) → p ≡ Done e → Lands (literal_words tilde n) at o e (set (set (set o₁ (at + 1) 126) (at + x) 120) at 32)
   literal-put e q =
       let h = has-place tilde n at x is o o₁ p f e q in
       let g = number_put tilde n at x is o o₁ p f e q in
-      puts-land (literalWords tilde n) at o (omega (arith, is, words-length tilde n)) (record {
+      puts-land (literal_words tilde n) at o (omega (arith, is, words-length tilde n)) (record {
         place = omega (arith, g.place, is, words-length tilde n);
         after = ap (λ (l : List ℕ). set (set (set l (at + 1) 126) (at + x) 120) at 32) g.after ∙ all-before n at o tilde x is h;
       })

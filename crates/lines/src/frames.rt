@@ -3,9 +3,9 @@
 ghost use Rattle.std.specs.Prelude.{◌≡◌};
 ghost use Rattle.puts.specs.Lands.{Lands};
 ghost use Rattle.puts.specs.SeveralPuts.{LandsEach};
-ghost use Rattle.printed.specs.Kinds.{isEqual};
-ghost use Rattle.printed.specs.Bounds.{printedBound};
-ghost use Rattle.lines.specs.LinePieces.{finalBound, operatorPiece, comparisonPieces, offsetPieces, endingPieces};
+ghost use Rattle.printed.specs.Kinds.{is_equal};
+ghost use Rattle.printed.specs.Bounds.{printed_bound};
+ghost use Rattle.lines.specs.LinePieces.{final_bound, operator_piece, comparison_pieces, offset_pieces, ending_pieces};
 
 use definitions::Kind;
 use printed::{Bound, printed_bound};
@@ -14,7 +14,7 @@ use shown::Sums;
 
 // The bound that is printed, 0 in the place of one beyond 64 bits: no row with such a bound is written.
 pub(crate) fn final_bound(kind: Kind, bound: i64, sums: Sums) -> i64
-    ensures { result ≡ finalBound (printedBound kind bound sums.total sums.fall) }
+    ensures { result ≡ final_bound (printed_bound kind bound sums.total sums.fall) }
 {
     match printed_bound(kind, bound, sums) {
         Bound::Is(z) => z,
@@ -23,7 +23,7 @@ pub(crate) fn final_bound(kind: Kind, bound: i64, sums: Sums) -> i64
 }
 
 fn is_equal(kind: Kind) -> bool
-    ensures { result ≡ isEqual kind }
+    ensures { result ≡ is_equal kind }
 {
     match kind {
         Kind::AtLeast => false,
@@ -35,7 +35,7 @@ fn is_equal(kind: Kind) -> bool
 
 // The operator, and the space behind it.
 fn put_operator(kind: Kind, out: &mut [u8], at: usize) -> usize
-    ensures { Lands (operatorPiece kind) at out.old result out.new }
+    ensures { Lands (operator_piece kind) at out.old result out.new }
 {
     if is_equal(kind) {
         return put_text(b"= ", out, at);
@@ -44,7 +44,7 @@ fn put_operator(kind: Kind, out: &mut [u8], at: usize) -> usize
 }
 
 pub(crate) fn put_comparison(kind: Kind, z: i64, out: &mut [u8], at: usize) -> usize
-    ensures { LandsEach (comparisonPieces kind z) at out.old result out.new }
+    ensures { LandsEach (comparison_pieces kind z) at out.old result out.new }
 {
     let number = put_operator(kind, out, at);
     let end = put_number(z, out, number);
@@ -53,7 +53,7 @@ pub(crate) fn put_comparison(kind: Kind, z: i64, out: &mut [u8], at: usize) -> u
 
 // "If the final offset is not 0, a line ... follows, in either mode."
 fn put_offset(z: i64, out: &mut [u8], at: usize) -> usize
-    ensures { LandsEach (offsetPieces z) at out.old result out.new }
+    ensures { LandsEach (offset_pieces z) at out.old result out.new }
 {
     if z == 0 {
         return at;
@@ -65,7 +65,7 @@ fn put_offset(z: i64, out: &mut [u8], at: usize) -> usize
 
 // What ends an objective: `;`, the line's end, and its offset.
 pub(crate) fn put_ending(z: i64, out: &mut [u8], at: usize) -> usize
-    ensures { LandsEach (endingPieces z) at out.old result out.new }
+    ensures { LandsEach (ending_pieces z) at out.old result out.new }
 {
     let line = put_text(b";\n", out, at);
     put_offset(z, out, line)

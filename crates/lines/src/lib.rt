@@ -6,8 +6,8 @@ mod frames;
 mod terms;
 
 ghost use Rattle.puts.specs.SeveralPuts.{LandsEach};
-ghost use Rattle.shown.specs.Terms.{ownTerms};
-ghost use Rattle.lines.specs.LinePieces.{headPieces, rowPieces};
+ghost use Rattle.shown.specs.Terms.{own_terms};
+ghost use Rattle.lines.specs.LinePieces.{head_pieces, row_pieces};
 
 use definitions::Mode;
 use frames::{final_bound, put_comparison, put_ending};
@@ -17,7 +17,7 @@ use terms::put_terms;
 
 // `min:` before the terms of an objective.
 fn put_head(goal: bool, out: &mut [u8], at: usize) -> usize
-    ensures { LandsEach (headPieces goal) at out.old result out.new }
+    ensures { LandsEach (head_pieces goal) at out.old result out.new }
 {
     if goal {
         return put_text(b"min:", out, at);
@@ -34,7 +34,7 @@ pub fn put_row(
     out: &mut [u8],
     at: usize,
 ) -> usize
-    ensures { LandsEach (rowPieces mode shape (ownTerms shape.unit weights.now literals.now)) at out.old result out.new }
+    ensures { LandsEach (row_pieces mode shape (own_terms shape.unit weights.now literals.now)) at out.old result out.new }
 {
     let style = style_of(shape, mode);
     let from = put_head(style.apart, out, at);

@@ -1,8 +1,8 @@
 // The terms of a row, each with its space, and their sums. Assumes nothing.
 ghost use Rattle.puts.specs.Lands.{Lands};
 ghost use Rattle.puts.specs.SeveralPuts.{LandsEach};
-ghost use Rattle.shown.specs.Terms.{literalWords, ownTerms};
-ghost use Rattle.lines.specs.LinePieces.{spaceIf, termPieces, shownPieces};
+ghost use Rattle.shown.specs.Terms.{literal_words, own_terms};
+ghost use Rattle.lines.specs.LinePieces.{space_if, term_pieces, shown_pieces};
 ghost use Rattle.lines.specs.Ended.{PutsTerms};
 
 use literals::{FileNumber, FileNumberRead};
@@ -18,7 +18,7 @@ pub(crate) struct Ended {
 }
 
 fn put_space(wanted: bool, out: &mut [u8], at: usize) -> usize
-    ensures { LandsEach (spaceIf wanted) at out.old result out.new }
+    ensures { LandsEach (space_if wanted) at out.old result out.new }
 {
     if wanted {
         return put_text(b" ", out, at);
@@ -29,7 +29,7 @@ fn put_space(wanted: bool, out: &mut [u8], at: usize) -> usize
 // What stands behind the weight: a space and the literal. The number is printed first: where it does not fit, nothing
 // of it is put.
 fn put_literal(tilde: bool, n: FileNumber, out: &mut [u8], at: usize) -> usize
-    ensures { Lands (literalWords tilde n.0) at out.old result out.new }
+    ensures { Lands (literal_words tilde n.0) at out.old result out.new }
 {
     let number = n.number() as u64;
     let x: usize = if tilde { 2 } else { 1 };
@@ -48,7 +48,7 @@ fn put_literal(tilde: bool, n: FileNumber, out: &mut [u8], at: usize) -> usize
 
 // A term with the space before or behind it.
 fn put_term(apart: bool, x: Shown, n: FileNumber, out: &mut [u8], at: usize) -> usize
-    ensures { LandsEach (termPieces apart x n.0) at out.old result out.new }
+    ensures { LandsEach (term_pieces apart x n.0) at out.old result out.new }
 {
     let from = put_space(apart, out, at);
     let w = x.weight;
@@ -58,7 +58,7 @@ fn put_term(apart: bool, x: Shown, n: FileNumber, out: &mut [u8], at: usize) -> 
 }
 
 fn put_shown(style: Style, x: Shown, out: &mut [u8], at: usize) -> usize
-    ensures { LandsEach (shownPieces style x) at out.old result out.new }
+    ensures { LandsEach (shown_pieces style x) at out.old result out.new }
 {
     let v = x.var;
     match FileNumber::of(v, style.first) {
@@ -75,7 +75,7 @@ pub(crate) fn put_terms(
     out: &mut [u8],
     at: usize,
 ) -> Ended
-    ensures { PutsTerms style (ownTerms style.unit weights.now literals.now) at out.old result out.new }
+    ensures { PutsTerms style (own_terms style.unit weights.now literals.now) at out.old result out.new }
 {
     let count = columns::term_room(weights, literals);
     let mut end = at;

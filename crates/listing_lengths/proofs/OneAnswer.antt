@@ -6,7 +6,7 @@ use mathlib.Core.List.{List, [], ◌∷◌}
 use native.Mathlib.Omega.{arith}
 use lib.ListN.{length}
 use lib.IntN.{pos}
-use Rattle.definitions.specs.Table.{Table, table, rowRoom, termRoom}
+use Rattle.definitions.specs.Table.{Table, table, row_room, term_room}
 use Rattle.listing_lengths.proofs.listing_length.Reads as listing-length
 
 copies : {A : Type 0} → A → ℕ → List A
@@ -21,14 +21,14 @@ copies_length a (suc n) = ap suc (copies_length a n)
 abbrev roomy : ℕ → ℕ → Table
 roomy rows terms = table (copies 0 rows) (copies 0 rows) (copies 0 rows) (copies (pos 0) rows) (copies (pos 0) terms) (copies 0 terms)
 
-row_room : (rows terms : ℕ) → rowRoom (roomy rows terms) ≡ rows
+row_room : (rows terms : ℕ) → row_room (roomy rows terms) ≡ rows
 row_room rows terms = omega (arith, copies_length {A = ℕ} 0 rows, copies_length (pos 0) rows)
 
-term-room : (rows terms : ℕ) → termRoom (roomy rows terms) ≡ terms
+term-room : (rows terms : ℕ) → term_room (roomy rows terms) ≡ terms
 term-room rows terms = omega (arith, copies_length {A = ℕ} 0 terms, copies_length (pos 0) terms)
 
-any-room : {rows terms : ℕ} {f : Table → ℕ} {r r' : ℕ} → ((t : Table) → rowRoom t ≡ rows → termRoom t ≡ terms → r ≡ f t)
-    → ((t : Table) → rowRoom t ≡ rows → termRoom t ≡ terms → r' ≡ f t) → r ≡ r'
+any-room : {rows terms : ℕ} {f : Table → ℕ} {r r' : ℕ} → ((t : Table) → row_room t ≡ rows → term_room t ≡ terms → r ≡ f t)
+    → ((t : Table) → row_room t ≡ rows → term_room t ≡ terms → r' ≡ f t) → r ≡ r'
 any-room {rows} {terms} p q =
     let t = roomy rows terms in
     p t (row_room rows terms) (term-room rows terms) ∙ sym (q t (row_room rows terms) (term-room rows terms))

@@ -4,25 +4,25 @@ use Rattle.std.specs.Prelude.{ℕ, List, length}
 use Rattle.definitions.specs.Lists.{joined}
 use Rattle.definitions.specs.Refusal.{needed}
 use Rattle.definitions.specs.Row.{Term, Line}
-use Rattle.definitions.specs.Table.{Outcome, refused, accepted, allTerms}
-use Rattle.definitions.specs.House.{termFields, houseLine}
+use Rattle.definitions.specs.Table.{Outcome, refused, accepted, all_terms}
+use Rattle.definitions.specs.House.{term_fields, house_line}
 use Rattle.listing_lengths.specs.declared.Sizes.{Sizes}
 use Rattle.listing_lengths.specs.declared.Measured.{Measured}
 use Rattle.listing_lengths.specs.declared.Measured.TheVariants as measured
 
 -- the fields of terms
-abbrev pub fieldsLength : ℕ → List Term → ℕ
-fieldsLength first ts = needed (length (joined (termFields first) ts))
+abbrev pub fields_length : ℕ → List Term → ℕ
+fields_length first ts = needed (length (joined (term_fields first) ts))
 
 -- of a file: its rows, their terms, and the length of their lines
-abbrev pub sizesOf : ℕ → List Line → Sizes
-sizesOf first ls = record { rows = length ls; terms = length (allTerms ls); lines = needed (length (joined (houseLine first) ls)) }
+abbrev pub sizes_of : ℕ → List Line → Sizes
+sizes_of first ls = record { rows = length ls; terms = length (all_terms ls); lines = needed (length (joined (house_line first) ls)) }
 
-abbrev pub fileSizes : ℕ → Outcome (List Line) → Outcome Sizes
-fileSizes first (refused r) = refused r
-fileSizes first (accepted ls) = accepted (sizesOf first ls)
+abbrev pub file_sizes : ℕ → Outcome (List Line) → Outcome Sizes
+file_sizes first (refused r) = refused r
+file_sizes first (accepted ls) = accepted (sizes_of first ls)
 
 -- 01's number and place, or the sizes
-abbrev pub saidMeasured : Measured → Outcome Sizes
-saidMeasured (measured.Refused r) = refused r
-saidMeasured (measured.Lines z) = accepted z
+abbrev pub said_measured : Measured → Outcome Sizes
+said_measured (measured.Refused r) = refused r
+said_measured (measured.Lines z) = accepted z

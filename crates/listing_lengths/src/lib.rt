@@ -5,10 +5,10 @@ mod statement;
 
 ghost use Rattle.std.specs.Prelude.{◌≡◌, length};
 ghost use Rattle.definitions.specs.Refusal.{needed};
-ghost use Rattle.definitions.specs.Table.{Table, rowRoom, termRoom};
+ghost use Rattle.definitions.specs.Table.{Table, row_room, term_room};
 ghost use Rattle.definitions.specs.File.{lines_of, statements, file, reading};
 ghost use Rattle.definitions.specs.House.{listing};
-ghost use Rattle.listing_lengths.specs.Measure.{fileSizes, saidMeasured};
+ghost use Rattle.listing_lengths.specs.Measure.{file_sizes, said_measured};
 
 use definitions::{FILE_LIMIT, Options, Refusal};
 use statements::StatementRead;
@@ -29,7 +29,7 @@ pub(crate) enum Measured {
 
 // Statement by statement, as the reader's first walk.
 fn measure_statements(s: &[u8], options: Options) -> Measured
-    ensures { saidMeasured result ≡ fileSizes options.first (lines_of (statements options s.now)) }
+    ensures { said_measured result ≡ file_sizes options.first (lines_of (statements options s.now)) }
 {
     let mut rows: usize = 0;
     let mut terms: usize = 0;
@@ -59,7 +59,7 @@ fn measure_statements(s: &[u8], options: Options) -> Measured
 
 // "Reader's order: 1; then statement by statement".
 fn measure_file(s: &[u8], options: Options) -> Measured
-    ensures { saidMeasured result ≡ fileSizes options.first (file options s.now) }
+    ensures { said_measured result ≡ file_sizes options.first (file options s.now) }
 {
     if s.len() > FILE_LIMIT {
         return Measured::Refused(Refusal {
@@ -73,7 +73,7 @@ fn measure_file(s: &[u8], options: Options) -> Measured
 // The whole text, for columns with room for so many rows and terms: of the head and the lines, or of a refusal, which
 // may be "9, then 10".
 pub fn listing_length(s: &[u8], options: Options, rows: usize, terms: usize) -> u64
-    ensures { (t : Table) → rowRoom t ≡ rows → termRoom t ≡ terms → result ≡ needed (length (listing options.first (reading options s.now t))) }
+    ensures { (t : Table) → row_room t ≡ rows → term_room t ≡ terms → result ≡ needed (length (listing options.first (reading options s.now t))) }
 {
     match measure_file(s, options) {
         Measured::Refused(e) => refusals::refusal_length(e.number, e.place) as u64,

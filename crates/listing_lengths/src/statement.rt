@@ -1,10 +1,10 @@
 // The line of one statement, measured from its text: the fields of the terms that a walk over it meets, and the words
 // around them. Assumes nothing.
 ghost use Rattle.std.specs.Prelude.{◌≡◌};
-ghost use Rattle.sums.specs.Met.{metTerms};
-ghost use Rattle.statements.specs.Met.{goalMet, statementMet};
-ghost use Rattle.house_lengths.specs.Lengths.{lineLength};
-ghost use Rattle.listing_lengths.specs.Measure.{fieldsLength};
+ghost use Rattle.sums.specs.Met.{met_terms};
+ghost use Rattle.statements.specs.Met.{goal_met, statement_met};
+ghost use Rattle.house_lengths.specs.Lengths.{line_length};
+ghost use Rattle.listing_lengths.specs.Measure.{fields_length};
 
 use beginnings::MinRead;
 use definitions::{Beginning, Entry, Options};
@@ -14,7 +14,7 @@ use pieces::NextTerm;
 // The fields of the terms that stand at the front of s. A literal that was read has a file number, so each has a
 // length.
 fn sum_length(s: &[u8], options: Options) -> u64
-    ensures { result ≡ fieldsLength options.first (metTerms options s.now) }
+    ensures { result ≡ fields_length options.first (met_terms options s.now) }
 {
     let mut total: u64 = 0;
     let mut at: usize = 0;
@@ -40,7 +40,7 @@ fn sum_length(s: &[u8], options: Options) -> u64
 
 // The same for the objective at the front of s.
 fn goal_length(s: &[u8], options: Options) -> u64
-    ensures { result ≡ fieldsLength options.first (goalMet options s.now) }
+    ensures { result ≡ fields_length options.first (goal_met options s.now) }
 {
     let MinRead::Min(k) = beginnings::read_min(s) else {
         return 0;
@@ -51,7 +51,7 @@ fn goal_length(s: &[u8], options: Options) -> u64
 
 // The same for the statement at the front of s.
 fn fields_length(s: &[u8], options: Options) -> u64
-    ensures { result ≡ fieldsLength options.first (statementMet options s.now) }
+    ensures { result ≡ fields_length options.first (statement_met options s.now) }
 {
     let k = blanks::blanks_of(s);
     if s.len() <= k {
@@ -67,7 +67,7 @@ fn fields_length(s: &[u8], options: Options) -> u64
 
 // The line of the statement at the front of s, which was read as this entry.
 pub(crate) fn statement_length(s: &[u8], options: Options, entry: Entry) -> u64
-    ensures { result ≡ lineLength entry.kind entry.count entry.bound (fieldsLength options.first (statementMet options s.now)) }
+    ensures { result ≡ line_length entry.kind entry.count entry.bound (fields_length options.first (statement_met options s.now)) }
 {
     let fields = fields_length(s, options);
     house_lengths::line_length(entry.kind, entry.count, entry.bound, fields)

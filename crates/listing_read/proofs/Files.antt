@@ -11,16 +11,16 @@ use Rattle.definitions.specs.Refusal.{refusal, needed}
 use Rattle.definitions.specs.Lists.{over}
 use Rattle.definitions.specs.Output.{put_in}
 use Rattle.definitions.specs.Row.{Line}
-use Rattle.definitions.specs.Table.{Table, Outcome, refused, accepted, entries, filled, totalsOf, allTerms, counted, after, rowByRow}
-use Rattle.definitions.specs.Answers.{saidCounted}
+use Rattle.definitions.specs.Table.{Table, Outcome, refused, accepted, entries, filled, totals_of, all_terms, counted, after, row_by_row}
+use Rattle.definitions.specs.Answers.{said_counted}
 use Rattle.definitions.specs.declared.Refusal.{Refusal}
 use Rattle.definitions.specs.declared.Totals.{Totals}
 use Rattle.definitions.specs.declared.Counted.{Counted}
 use Rattle.definitions.specs.declared.Counted.TheVariants as answer
 use Rattle.definitions.specs.declared.Length.{Length}
 use Rattle.definitions.specs.File.{first_at, file, reading}
-use Rattle.definitions.specs.Write.{fittedText, outputAfter}
-use Rattle.definitions.specs.House.{refusedLine, listing, listedEntry, listingTable}
+use Rattle.definitions.specs.Write.{fitted_text, output_after}
+use Rattle.definitions.specs.House.{refused_line, listing, listed_entry, listing_table}
 use Rattle.laws.proofs.Tables.{filled-listed}
 use Rattle.laws.proofs.ReadRows.{statements-good, good-indexed, good-numbered}
 use Rattle.definitions.proofs.FileAnswers.{file-accepted}
@@ -30,7 +30,7 @@ use Rattle.outputs.specs.declared.Put.{Put}
 use Rattle.outputs.specs.Print.{Prints}
 use Rattle.reader.specs.Reads.{Reads}
 use Rattle.house.specs.ListsTable.{Lists}
-use Rattle.listing_read.specs.ListsRead.{fileListing, ListsRead}
+use Rattle.listing_read.specs.ListsRead.{file_listing, ListsRead}
 
 -- ---- what an answer was counted of
 
@@ -46,25 +46,25 @@ record Counts (n : ℕ) (x : Outcome (List Line)) : Type 0 where
 accepted-count : (n : Totals) (x : Outcome (List Line)) → accepted n ≡ counted x → Counts n.rows x
 accepted-count n (refused r) e = never (cc)
 accepted-count n (accepted ls) e =
-    let q : n ≡ totalsOf (length ls) (length (allTerms ls)) = cc in
+    let q : n ≡ totals_of (length ls) (length (all_terms ls)) = cc in
     record { lines = ls; are = refl; count = ap (λ (z : Totals). z.rows) q }
 
 -- ---- a text from the front of an output, where it fits
 
-front-put : (text o : List ℕ) → put_in text 0 o ≡ outputAfter (fittedText (length o) text) o
-unfolding put_in outputAfter
+front-put : (text o : List ℕ) → put_in text 0 o ≡ output_after (fitted_text (length o) text) o
+unfolding put_in output_after
 front-put text o =
     let z : 0 + length text ≡ length text = omega arith in
     rw z (by (leb (length text) (length o)))
   where
-    by : (b : Bool) → cond b (over text o) o ≡ outputAfter (cond b (accepted text) (refused (refusal 14 (needed (length text))))) o
+    by : (b : Bool) → cond b (over text o) o ≡ output_after (cond b (accepted text) (refused (refusal 14 (needed (length text))))) o
     by true = refl
     by false = refl
 
 module _ (first : ℕ) (s : List ℕ) (t : Table) where
   -- ---- "a table that was read" is again the rows that were read, and each has its file numbers: no 11, no 5
   table-back : (ls : List Line) → reading (first_at first) s t ≡ accepted ls
-      → rowByRow (listedEntry first (filled ls t)) 0 (take (length ls) (entries (filled ls t))) ≡ accepted ls
+      → row_by_row (listed_entry first (filled ls t)) 0 (take (length ls) (entries (filled ls t))) ≡ accepted ls
   unfolding reading
   table-back ls e =
       let f = fitted-accepted t (file (first_at first) s) ls e in
@@ -75,36 +75,36 @@ module _ (first : ℕ) (s : List ℕ) (t : Table) where
   module _ (o o' : List ℕ) (t' : Table) (a : Counted) (reads : Reads (first_at first) s t a t') where
     -- ---- a refusal
     module _ (e : Refusal) (q : a ≡ answer.Refused e) where
-      text-is : refusedLine (refusal e.number e.place) ≡ listing first (reading (first_at first) s t)
+      text-is : refused_line (refusal e.number e.place) ≡ listing first (reading (first_at first) s t)
       unfolding listing
-      text-is = rw (refused-count e (reading (first_at first) s t) (sym (ap saidCounted q) ∙ reads.answer))
+      text-is = rw (refused-count e (reading (first_at first) s t) (sym (ap said_counted q) ∙ reads.answer))
 
-      pub refused-lists : (r : Put) → Prints (refusedLine (refusal e.number e.place)) 0 o r o' → ListsRead first s t o t' o'
-      unfolding fileListing
+      pub refused-lists : (r : Put) → Prints (refused_line (refusal e.number e.place)) 0 o r o' → ListsRead first s t o t' o'
+      unfolding file_listing
       refused-lists r prints =
           record {
             output =
-                prints.after ∙ front-put (refusedLine (refusal e.number e.place)) o
-                ∙ ap (λ (x : List ℕ). outputAfter (fittedText (length o) x) o) text-is;
+                prints.after ∙ front-put (refused_line (refusal e.number e.place)) o
+                ∙ ap (λ (x : List ℕ). output_after (fitted_text (length o) x) o) text-is;
             tables = reads.after;
           }
 
     -- ---- a table
     module _ (n : Totals) (q : a ≡ answer.Table n) where
       counts : Counts n.rows (reading (first_at first) s t)
-      counts = accepted-count n (reading (first_at first) s t) (sym (ap saidCounted q) ∙ reads.answer)
+      counts = accepted-count n (reading (first_at first) s t) (sym (ap said_counted q) ∙ reads.answer)
 
       table_is : t' ≡ filled counts.lines t
       unfolding after
       table_is = reads.after ∙ ap (λ (x : Outcome (List Line)). after x t) counts.are
 
       -- the table's listing is that of the rows
-      outcome : listingTable first n.rows t' (length o) ≡ fileListing first s t (length o)
-      unfolding listingTable fileListing
+      outcome : listing_table first n.rows t' (length o) ≡ file_listing first s t (length o)
+      unfolding listing_table file_listing
       outcome =
-          ap (λ (x : Table). listingTable first n.rows x (length o)) table_is
-          ∙ ap (λ (k : ℕ). listingTable first k (filled counts.lines t) (length o)) counts.count
+          ap (λ (x : Table). listing_table first n.rows x (length o)) table_is
+          ∙ ap (λ (k : ℕ). listing_table first k (filled counts.lines t) (length o)) counts.count
           ∙ rw (table-back counts.lines counts.are, ← counts.are)
 
       pub read-lists : (r : Length) → Lists first n.rows t' o r o' → ListsRead first s t o t' o'
-      read-lists r l = record { output = l.after ∙ ap (λ (x : Outcome (List ℕ)). outputAfter x o) outcome; tables = reads.after }
+      read-lists r l = record { output = l.after ∙ ap (λ (x : Outcome (List ℕ)). output_after x o) outcome; tables = reads.after }

@@ -5,6 +5,6 @@ use Rattle.literal_read.specs.declared.LiteralRead.{LiteralRead}
 use Rattle.literal_read.specs.declared.LiteralRead.TheVariants.{Literal, Refused}
 
 -- a literal's code
-abbrev pub saidLiteral : LiteralRead → Got ℕ
-saidLiteral (Literal l n) = got l.0 n
-saidLiteral (Refused e) = none e
+abbrev pub said_literal : LiteralRead → Got ℕ
+said_literal (Literal l n) = got l.0 n
+said_literal (Refused e) = none e

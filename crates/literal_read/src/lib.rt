@@ -2,7 +2,7 @@
 // specs/Said.antt says what each answer is in 01's numbers and values. Assumes nothing.
 ghost use Rattle.std.specs.Prelude.{◌≡◌};
 ghost use Rattle.definitions.specs.Text.{digits, variable, literal};
-ghost use Rattle.literal_read.specs.Said.{saidLiteral};
+ghost use Rattle.literal_read.specs.Said.{said_literal};
 
 use definitions::{Fault, Options};
 use literals::{FileNumber, FileNumberRead, Lit, LitRead, Var, VarRead};
@@ -22,7 +22,7 @@ pub enum LiteralRead {
 
 // The digits of a file number.
 fn read_digits(s: &[u8], options: Options, negated: bool) -> LiteralRead
-    ensures { saidLiteral result ≡ digits options negated s.now }
+    ensures { said_literal result ≡ digits options negated s.now }
 {
     let run = numbers::read_run(s);
     let count = run.count;
@@ -49,7 +49,7 @@ fn read_digits(s: &[u8], options: Options, negated: bool) -> LiteralRead
 
 // An `x` and the digits behind it.
 fn read_variable(s: &[u8], options: Options, negated: bool) -> LiteralRead
-    ensures { saidLiteral result ≡ variable options negated s.now }
+    ensures { said_literal result ≡ variable options negated s.now }
 {
     if s.len() == 0 {
         return LiteralRead::Refused(Fault { number: NO_LITERAL });
@@ -64,7 +64,7 @@ fn read_variable(s: &[u8], options: Options, negated: bool) -> LiteralRead
 }
 
 pub fn read_literal(s: &[u8], options: Options) -> LiteralRead
-    ensures { saidLiteral result ≡ literal options s.now }
+    ensures { said_literal result ≡ literal options s.now }
 {
     if s.len() == 0 {
         return LiteralRead::Refused(Fault { number: NO_LITERAL });

@@ -3,24 +3,24 @@ use Prim.Native.Nat.{ℕ, ◌+◌}
 use mathlib.Core.Path.{◌≡◌, sym, ap, ◌∙◌}
 use mathlib.Core.Bool.{Bool, true, false, cond}
 use lib.Dec.{leb}
-use Rattle.definitions.specs.Limits.{fileNumberLimit}
+use Rattle.definitions.specs.Limits.{file_number_limit}
 use Rattle.definitions.specs.Refusal.{refuse, accept}
-use Rattle.definitions.specs.Literal.{fileNumber}
-use Rattle.definitions.specs.Write.{isAccepted}
+use Rattle.definitions.specs.Literal.{file_number}
+use Rattle.definitions.specs.Write.{is_accepted}
 use Rattle.definitions.proofs.Truths.{never}
-use Rattle.literals.specs.Said.{saidFileNumber}
+use Rattle.literals.specs.Said.{said_file_number}
 use Rattle.literals.specs.declared.FileNumber.{FileNumber}
 use Rattle.literals.specs.declared.FileNumberRead.{FileNumberRead}
 use Rattle.literals.specs.declared.FileNumberRead.TheVariants as file-number
 
-module _ (first v : ℕ) (r : FileNumberRead) (e : saidFileNumber r ≡ fileNumber first v) where
-  pub number_is : (n : FileNumber) → r ≡ file-number.Is n → (n.0 ≡ v + first) × (isAccepted (fileNumber first v) ≡ true)
-  unfolding fileNumber
-  number_is n q = (value (leb (v + first) fileNumberLimit) (sym (ap saidFileNumber q) ∙ e), ap isAccepted (sym e ∙ ap saidFileNumber q))
+module _ (first v : ℕ) (r : FileNumberRead) (e : said_file_number r ≡ file_number first v) where
+  pub number_is : (n : FileNumber) → r ≡ file-number.Is n → (n.0 ≡ v + first) × (is_accepted (file_number first v) ≡ true)
+  unfolding file_number
+  number_is n q = (value (leb (v + first) file_number_limit) (sym (ap said_file_number q) ∙ e), ap is_accepted (sym e ∙ ap said_file_number q))
     where
       value : (b : Bool) → accept n.0 ≡ cond b (accept (v + first)) (refuse 5) → n.0 ≡ v + first
       value true p = cc
       value false p = never (cc)
 
-  pub no_number : r ≡ file-number.OutOfRange → isAccepted (fileNumber first v) ≡ false
-  no_number q = ap isAccepted (sym e ∙ ap saidFileNumber q)
+  pub no_number : r ≡ file-number.OutOfRange → is_accepted (file_number first v) ≡ false
+  no_number q = ap is_accepted (sym e ∙ ap said_file_number q)

@@ -1,7 +1,7 @@
 -- Each public function has one possible answer for each input: two that its contract allows are equal.
 use Prim.Native.Nat.{ℕ}
 use mathlib.Core.Path.{◌≡◌, refl, sym, ap, ◌∙◌}
-use Rattle.literals.specs.Said.{saidFileNumber, saidVar, saidLit}
+use Rattle.literals.specs.Said.{said_file_number, said_var, said_lit}
 use Rattle.literals.specs.declared.Lit.{Lit}
 use Rattle.literals.specs.declared.Var.{Var}
 use Rattle.literals.specs.declared.FileNumberRead.{FileNumberRead}
@@ -29,19 +29,19 @@ use Rattle.literals.proofs.Lit.is_neg.Reads as lit-is-neg
 use Rattle.literals.proofs.Lit.is_pos.Reads as lit-is-pos
 
 -- ---- an answer is known by what it says
-pub said-file-number : (r r' : FileNumberRead) → saidFileNumber r ≡ saidFileNumber r' → r ≡ r'
+pub said-file-number : (r r' : FileNumberRead) → said_file_number r ≡ said_file_number r' → r ≡ r'
 said-file-number (file-number.Is x) (file-number.Is y) e = ap (λ (n : ℕ). file-number.Is (record { 0 = n })) (accepted x.0 y.0 e)
 said-file-number (file-number.Is x) file-number.OutOfRange e = absurd (no-refusal x.0 _ e)
 said-file-number file-number.OutOfRange (file-number.Is y) e = absurd (no-refusal y.0 _ (sym e))
 said-file-number file-number.OutOfRange file-number.OutOfRange e = refl
 
-pub said-var : (r r' : VarRead) → saidVar r ≡ saidVar r' → r ≡ r'
+pub said-var : (r r' : VarRead) → said_var r ≡ said_var r' → r ≡ r'
 said-var (var.Is x) (var.Is y) e = ap (λ (n : ℕ). var.Is (record { 0 = n })) (accepted x.0 y.0 e)
 said-var (var.Is x) var.OutOfRange e = absurd (no-refusal x.0 _ e)
 said-var var.OutOfRange (var.Is y) e = absurd (no-refusal y.0 _ (sym e))
 said-var var.OutOfRange var.OutOfRange e = refl
 
-pub said-lit : (r r' : LitRead) → saidLit r ≡ saidLit r' → r ≡ r'
+pub said-lit : (r r' : LitRead) → said_lit r ≡ said_lit r' → r ≡ r'
 said-lit (lit.Is x) (lit.Is y) e = ap (λ (n : ℕ). lit.Is (record { 0 = n })) (accepted x.0 y.0 e)
 said-lit (lit.Is x) lit.OutOfRange e = absurd (no-refusal x.0 _ e)
 said-lit lit.OutOfRange (lit.Is y) e = absurd (no-refusal y.0 _ (sym e))

@@ -8,14 +8,14 @@ use Rattle.literals.specs.declared.VarRead.TheVariants as var
 use Rattle.literals.specs.declared.LitRead.{LitRead}
 use Rattle.literals.specs.declared.LitRead.TheVariants as lit
 
-abbrev pub saidFileNumber : FileNumberRead → Checked ℕ
-saidFileNumber (file-number.Is n) = accept n.0
-saidFileNumber file-number.OutOfRange = refuse 5
+abbrev pub said_file_number : FileNumberRead → Checked ℕ
+said_file_number (file-number.Is n) = accept n.0
+said_file_number file-number.OutOfRange = refuse 5
 
-abbrev pub saidVar : VarRead → Checked ℕ
-saidVar (var.Is v) = accept v.0
-saidVar var.OutOfRange = refuse 5
+abbrev pub said_var : VarRead → Checked ℕ
+said_var (var.Is v) = accept v.0
+said_var var.OutOfRange = refuse 5
 
-abbrev pub saidLit : LitRead → Checked ℕ
-saidLit (lit.Is l) = accept l.0
-saidLit lit.OutOfRange = refuse 5
+abbrev pub said_lit : LitRead → Checked ℕ
+said_lit (lit.Is l) = accept l.0
+said_lit lit.OutOfRange = refuse 5

@@ -2,9 +2,9 @@
 // for another" (01): each is a type of its own, and the functions here are the only ways between them. Where one has no
 // counterpart the answer is refusal 5. Assumes nothing.
 ghost use Rattle.std.specs.Prelude.{◌≡◌, true, false, not};
-ghost use Rattle.definitions.specs.Literal.{index, isIndex, index_of, codeFor, negated, opposite, fileNumber};
-ghost use Rattle.literals.specs.Said.{saidFileNumber, saidVar, saidLit};
-ghost use Rattle.literals.specs.FileDigits.{fileNumberOf};
+ghost use Rattle.definitions.specs.Literal.{index, is_index, index_of, code_for, negated, opposite, file_number};
+ghost use Rattle.literals.specs.Said.{said_file_number, said_var, said_lit};
+ghost use Rattle.literals.specs.FileDigits.{file_number_of};
 
 use definitions::{FILE_NUMBER_LIMIT, INDEX_LIMIT};
 
@@ -41,7 +41,7 @@ pub enum LitRead {
 impl FileNumber {
     // The file number that digits stand for.
     pub fn of_digits(size: u64) -> FileNumberRead
-        ensures { saidFileNumber result ≡ fileNumberOf size }
+        ensures { said_file_number result ≡ file_number_of size }
     {
         if size <= FILE_NUMBER_LIMIT {
             FileNumberRead::Is(FileNumber(size as u32))
@@ -59,7 +59,7 @@ impl FileNumber {
 
     // The number that a variable is written with.
     pub fn of(v: Var, first: u32) -> FileNumberRead
-        ensures { saidFileNumber result ≡ fileNumber first v.0 }
+        ensures { said_file_number result ≡ file_number first v.0 }
     {
         FileNumber::of_digits(v.0 as u64 + first as u64)
     }
@@ -82,14 +82,14 @@ impl Var {
 
     // Not "an index above its limit".
     pub fn in_limit(self) -> bool
-        ensures { result ≡ isIndex self.0 }
+        ensures { result ≡ is_index self.0 }
     {
         self.0 <= INDEX_LIMIT
     }
 
     // "A variable index is the file number less the first index."
     pub fn of_file(n: FileNumber, first: u32) -> VarRead
-        ensures { saidVar result ≡ index first n.0 }
+        ensures { said_var result ≡ index first n.0 }
     {
         if n.0 < first {
             return VarRead::OutOfRange;
@@ -104,7 +104,7 @@ impl Var {
 
     // A literal of the variable, if its index is within the limit.
     pub fn lit(self, negated: bool) -> LitRead
-        ensures { saidLit result ≡ codeFor negated self.0 }
+        ensures { said_lit result ≡ code_for negated self.0 }
     {
         if INDEX_LIMIT < self.0 {
             return LitRead::OutOfRange;
@@ -118,13 +118,13 @@ impl Var {
     }
 
     pub fn pos_lit(self) -> LitRead
-        ensures { saidLit result ≡ codeFor false self.0 }
+        ensures { said_lit result ≡ code_for false self.0 }
     {
         self.lit(false)
     }
 
     pub fn neg_lit(self) -> LitRead
-        ensures { saidLit result ≡ codeFor true self.0 }
+        ensures { said_lit result ≡ code_for true self.0 }
     {
         self.lit(true)
     }

@@ -2,12 +2,12 @@
 -- nothing that it is lent.
 use mathlib.Core.Path.{◌≡◌, sym, ◌∙◌}
 use Rattle.definitions.proofs.Truths.{never}
-use Rattle.measures.specs.RowsMeasured.{saidMeasure}
+use Rattle.measures.specs.RowsMeasured.{said_measure}
 use Rattle.measures.specs.declared.Measure.{Measure}
 use Rattle.measures.specs.declared.Measure.TheVariants.{Lines, Refused}
 use Rattle.measures.proofs.measure_opb_lines.Reads as measure-opb-lines
 
-measure-known : (r r' : Measure) → saidMeasure r ≡ saidMeasure r' → r ≡ r'
+measure-known : (r r' : Measure) → said_measure r ≡ said_measure r' → r ≡ r'
 measure-known (Refused x) (Refused y) e = cc
 measure-known (Refused x) (Lines y) e = never (cc)
 measure-known (Lines x) (Refused y) e = never (cc)

@@ -12,30 +12,30 @@ use Rattle.definitions.specs.Refusal.{refuse, accept, needed}
 use Rattle.definitions.specs.Row.{Term, row_of}
 use Rattle.definitions.specs.Table.{Table, indexed, and_then}
 use Rattle.definitions.specs.declared.Entry.{Entry}
-use Rattle.definitions.specs.Write.{weighs, say, line, itemText, oneLine, rowAllowed, allowed}
+use Rattle.definitions.specs.Write.{weighs, say, line, item_text, one_line, row_allowed, allowed}
 use Rattle.definitions.specs.declared.Mode.{Mode}
 use Rattle.printed.specs.declared.kinds.Shape.{Shape}
 use Rattle.printed.specs.declared.kinds.Sort.TheVariants.{Comment, Row}
-use Rattle.shown.specs.Terms.{ownTerms}
-use Rattle.printed.specs.Rows.{rowOn, entry_of, onColumns}
+use Rattle.shown.specs.Terms.{own_terms}
+use Rattle.printed.specs.Rows.{row_on, entry_of, on_columns}
 use Rattle.printed.proofs.PrintedTexts.{remark-length}
-use Rattle.printed.proofs.OneEntry.{part-is, own_is, itemFor}
-use Rattle.measures.specs.Rows.{measured, rowMeasured}
-use Rattle.measures.specs.Entries.{commentMeasured, partMeasured}
+use Rattle.printed.proofs.OneEntry.{part-is, own_is, item_for}
+use Rattle.measures.specs.Rows.{measured, row_measured}
+use Rattle.measures.specs.Entries.{comment_measured, part_measured}
 
 module _ (s : Shape) (f n : ℕ) (ws : List ℤ) (cs : List ℕ) (m : Mode) where
-  pub part-outside : leb (f + n) (min (length ws) (length cs)) ≡ false → refuse 11 ≡ partMeasured s f n ws cs m
+  pub part-outside : leb (f + n) (min (length ws) (length cs)) ≡ false → refuse 11 ≡ part_measured s f n ws cs m
   part-outside e = rw e
 
   pub part-inside : leb (f + n) (min (length ws) (length cs)) ≡ true
-      → rowMeasured m (rowOn s (take (f + n - f) (drop f ws)) (take (f + n - f) (drop f cs))) ≡ partMeasured s f n ws cs m
+      → row_measured m (row_on s (take (f + n - f) (drop f ws)) (take (f + n - f) (drop f cs))) ≡ part_measured s f n ws cs m
   part-inside e = rw (part-is f n ws, part-is f n cs, e)
 
 -- ---- what an entry comes to
 
 module _ (m : Mode) (ws : List ℤ) (cs : List ℕ) (text : List ℕ) (k f n : ℕ) (b : ℤ) where
   abbrev columns : Table
-  columns = onColumns ws cs
+  columns = on_columns ws cs
 
   abbrev asked : Entry
   asked = entry_of k f n b
@@ -43,9 +43,9 @@ module _ (m : Mode) (ws : List ℤ) (cs : List ℕ) (text : List ℕ) (k f n : �
   abbrev part : List ℕ
   part = take n (drop f text)
 
-  pub measured-comment : measured m (and_then (itemFor Comment columns text asked) (allowed m)) ≡ commentMeasured f n text
-  unfolding itemText
-  measured-comment = by (leb (f + n) (length text)) (oneLine part) (leb-true (f + n) (length text))
+  pub measured-comment : measured m (and_then (item_for Comment columns text asked) (allowed m)) ≡ comment_measured f n text
+  unfolding item_text
+  measured-comment = by (leb (f + n) (length text)) (one_line part) (leb-true (f + n) (length text))
     where
       by : (p q : Bool) → (p ≡ true → f + n ≤ length text)
           → measured m (and_then (cond p (cond q (accept (say part)) (refuse 15)) (refuse 11)) (allowed m))
@@ -57,16 +57,16 @@ module _ (m : Mode) (ws : List ℤ) (cs : List ℕ) (text : List ℕ) (k f n : �
       by true false h = refl
       by false q h = refl
 
-  pub measured-row : (s : Shape) → measured m (and_then (itemFor (Row s) columns text asked) (allowed m)) ≡ partMeasured s f n ws cs m
-  unfolding rowMeasured
+  pub measured-row : (s : Shape) → measured m (and_then (item_for (Row s) columns text asked) (allowed m)) ≡ part_measured s f n ws cs m
+  unfolding row_measured
   measured-row s = rw (own_is ws cs k f n b s.unit) (by (leb (f + n) (min (length ws) (length cs))) (indexed own && weighs own))
     where
       own : List Term
-      own = ownTerms s.unit (take n (drop f ws)) (take n (drop f cs))
+      own = own_terms s.unit (take n (drop f ws)) (take n (drop f cs))
 
       by : (p q : Bool) → measured m (and_then (cond (p && q) (accept (line (row_of s.kind s.bound own))) (refuse 11))
           (allowed m))
-          ≡ cond p (cond q (measured m (rowAllowed m (row_of s.kind s.bound own))) (refuse 11)) (refuse 11)
+          ≡ cond p (cond q (measured m (row_allowed m (row_of s.kind s.bound own))) (refuse 11)) (refuse 11)
       by true true = refl
       by true false = refl
       by false q = refl

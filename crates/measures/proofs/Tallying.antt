@@ -9,19 +9,19 @@ use lib.IntN.{ℤ, pos, negsuc}
 use lib.Signed.{lt_z, non_neg}
 use lib.ListN.{length, get_or, drop}
 use Rattle.definitions.specs.Refusal.{refuse, accept, needed}
-use Rattle.definitions.specs.Literal.{index_of, isIndex, fileNumber}
+use Rattle.definitions.specs.Literal.{index_of, is_index, file_number}
 use Rattle.definitions.specs.Row.{Term, term}
-use Rattle.definitions.specs.Write.{isAccepted}
+use Rattle.definitions.specs.Write.{is_accepted}
 use Rattle.definitions.proofs.Truths.{both}
 use Rattle.shown.specs.declared.terms.Style.{Style}
 use Rattle.shown.specs.declared.terms.Shown.{Shown}
 use Rattle.shown.specs.declared.sums.Sums.{Sums}
-use Rattle.shown.specs.Terms.{ownTerm, ownTerms, Shows, termWords, shownText}
-use Rattle.shown.specs.Sums.{sumsWith}
+use Rattle.shown.specs.Terms.{own_term, own_terms, Shows, term_words, shown_text}
+use Rattle.shown.specs.Sums.{sums_with}
 use Rattle.shown.proofs.OneTerm.{spaced-words, spaced-length, shown-falls}
 use Rattle.shown.proofs.AllTerms.{own-from, own-end}
 use Rattle.measures.specs.declared.terms.Tally.{Tally}
-use Rattle.measures.specs.Tallies.{noTally, lengthWith, shownNumber, tallyShown, lawfulShown, hasNumber, tallyWith, lawful, tallied}
+use Rattle.measures.specs.Tallies.{no_tally, length_with, shown_number, tally_shown, lawful_shown, has_number, tally_with, lawful, tallied}
 
 -- ---- what is asked of a term
 
@@ -34,7 +34,7 @@ others-lawful b (pos n) t = and-true b
 others-lawful b (negsuc n) t = let z : ◌≡◌ {A = ℕ} 0 1 = cc in absurd (omega arith)
 
 lawful-weighs : (t : Term) → lawful t ≡ true → non_neg t.weight ≡ true
-lawful-weighs t e = (both (isIndex (index_of t.code)) (non_neg t.weight) e).1
+lawful-weighs t e = (both (is_index (index_of t.code)) (non_neg t.weight) e).1
 
 -- ---- what is counted of a term
 
@@ -43,61 +43,61 @@ tally-eq : {s s' : Sums} {b b' : Bool} {n n' : ℕ} → s ≡ s' → b ≡ b' �
 tally-eq p q r = cc
 
 -- as the code counts it
-module _ (s : Style) (a : Tally) (x : Shown) {sums : Sums} (e : sums ≡ sumsWith a.sums x.own x.falls) where
-  pub tally-numbered : (n m : ℕ) → n ≡ x.var.0 + s.first → shownNumber s x ≡ true → m ≡ needed (a.length + (length (termWords x n) + 1))
-      → ◌≡◌ {A = Tally} (record { sums = sums; numbered = a.numbered; length = m }) (tallyShown s a x)
-  unfolding tallyShown
+module _ (s : Style) (a : Tally) (x : Shown) {sums : Sums} (e : sums ≡ sums_with a.sums x.own x.falls) where
+  pub tally-numbered : (n m : ℕ) → n ≡ x.var.0 + s.first → shown_number s x ≡ true → m ≡ needed (a.length + (length (term_words x n) + 1))
+      → ◌≡◌ {A = Tally} (record { sums = sums; numbered = a.numbered; length = m }) (tally_shown s a x)
+  unfolding tally_shown
   tally-numbered n m v b l = tally-eq e (rw b (sym (and-true a.numbered))) (l ∙ rw (b, v))
 
-  pub tally-unnumbered : shownNumber s x ≡ false
-      → ◌≡◌ {A = Tally} (record { sums = sums; numbered = false; length = a.length }) (tallyShown s a x)
-  unfolding tallyShown
+  pub tally-unnumbered : shown_number s x ≡ false
+      → ◌≡◌ {A = Tally} (record { sums = sums; numbered = false; length = a.length }) (tally_shown s a x)
+  unfolding tally_shown
   tally-unnumbered b = tally-eq e (rw b (sym (and-false a.numbered))) (rw b)
 
 -- a term of the row, by what is shown of it
 module _ {s : Style} {t : Term} {x : Shown} (h : Shows s t x) where
-  lawful-is : lawfulShown x ≡ lawful t
-  lawful-is = ap₂ (λ (v : ℕ) (w : ℤ). isIndex v && non_neg w) h.var h.own
+  lawful-is : lawful_shown x ≡ lawful t
+  lawful-is = ap₂ (λ (v : ℕ) (w : ℤ). is_index v && non_neg w) h.var h.own
 
-  number_same : shownNumber s x ≡ hasNumber s t
-  number_same = ap (λ (v : ℕ). isAccepted (fileNumber s.first v)) h.var
+  number_same : shown_number s x ≡ has_number s t
+  number_same = ap (λ (v : ℕ). is_accepted (file_number s.first v)) h.var
 
-  tally-is : (a : Tally) → non_neg t.weight ≡ true → tallyShown s a x ≡ tallyWith s a t
-  unfolding tallyShown tallyWith
+  tally-is : (a : Tally) → non_neg t.weight ≡ true → tally_shown s a x ≡ tally_with s a t
+  unfolding tally_shown tally_with
   tally-is a w =
-      let k : length (termWords x (x.var.0 + s.first)) + 1 ≡ length (shownText s t) =
-      sym (spaced-length s.apart (termWords x (x.var.0 + s.first)))
+      let k : length (term_words x (x.var.0 + s.first)) + 1 ≡ length (shown_text s t) =
+      sym (spaced-length s.apart (term_words x (x.var.0 + s.first)))
       ∙ ap length (spaced-words h (x.var.0 + s.first) w (ap (λ (v : ℕ). v + s.first) h.var)) in
-      tally-eq (ap₂ (sumsWith a.sums) h.own (shown-falls h w)) (ap (λ (b : Bool). a.numbered && b) number_same)
-      (ap₂ (λ (b : Bool) (m : ℕ). lengthWith b a.length m) number_same k)
+      tally-eq (ap₂ (sums_with a.sums) h.own (shown-falls h w)) (ap (λ (b : Bool). a.numbered && b) number_same)
+      (ap₂ (λ (b : Bool) (m : ℕ). length_with b a.length m) number_same k)
 
 -- i terms are counted
 pub record Tallying (s : Style) (ws : List ℤ) (cs : List ℕ) (i : ℕ) (a : Tally) : Type 0 where
   pub within : i ≤ length cs
-  pub left : tallied s a (ownTerms s.unit (drop i ws) (drop i cs)) ≡ tallied s noTally (ownTerms s.unit ws cs)
+  pub left : tallied s a (own_terms s.unit (drop i ws) (drop i cs)) ≡ tallied s no_tally (own_terms s.unit ws cs)
 
-pub tallying-none : (s : Style) (ws : List ℤ) (cs : List ℕ) → Tallying s ws cs 0 noTally
+pub tallying-none : (s : Style) (ws : List ℤ) (cs : List ℕ) → Tallying s ws cs 0 no_tally
 tallying-none s ws cs = record { within = omega arith; left = refl }
 
 module _ {s : Style} {ws : List ℤ} {cs : List ℕ} {i : ℕ} {a : Tally} (g : Tallying s ws cs i a) (long : length ws ≡ length cs) where
   module _ (h : i < length cs) where
     abbrev here : Term
-    here = ownTerm s.unit (term (get_or ws i (pos 0)) (get_or cs i 0))
+    here = own_term s.unit (term (get_or ws i (pos 0)) (get_or cs i 0))
 
-    next : ownTerms s.unit (drop i ws) (drop i cs) ≡ here ∷ ownTerms s.unit (drop (i + 1) ws) (drop (i + 1) cs)
+    next : own_terms s.unit (drop i ws) (drop i cs) ≡ here ∷ own_terms s.unit (drop (i + 1) ws) (drop (i + 1) cs)
     next = own-from s.unit ws cs i (omega (arith, long)) h
 
     module _ {x : Shown} (x-is : Shows s here x) where
-      pub tallying-refused : lawfulShown x ≡ false → refuse 11 ≡ tallied s noTally (ownTerms s.unit ws cs)
+      pub tallying-refused : lawful_shown x ≡ false → refuse 11 ≡ tallied s no_tally (own_terms s.unit ws cs)
       unfolding tallied
       tallying-refused l = rw (next, sym (lawful-is x-is) ∙ l) at g.left
 
-      pub tallying-more : {b : Tally} → lawfulShown x ≡ true → b ≡ tallyShown s a x → Tallying s ws cs (i + 1) b
+      pub tallying-more : {b : Tally} → lawful_shown x ≡ true → b ≡ tally_shown s a x → Tallying s ws cs (i + 1) b
       unfolding tallied
       tallying-more l e =
           let k = sym (lawful-is x-is) ∙ l in
           record { within = omega arith; left = rw (e ∙ tally-is x-is a (lawful-weighs here k)) (rw (next, k) at g.left) }
 
-  pub tallying-all : length cs ≤ i → accept a ≡ tallied s noTally (ownTerms s.unit ws cs)
+  pub tallying-all : length cs ≤ i → accept a ≡ tallied s no_tally (own_terms s.unit ws cs)
   unfolding tallied
   tallying-all h = rw (own-end s.unit ws cs i (omega (arith, long))) at g.left

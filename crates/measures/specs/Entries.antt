@@ -1,18 +1,18 @@
 -- One row of the table in the code's words, comments too: what the first walk says of it.
 use Rattle.std.specs.Prelude.{ℕ, ◌+◌, min, cond, List, leb, ℤ, length, take, drop}
 use Rattle.definitions.specs.Refusal.{Checked, refuse, accept, needed}
-use Rattle.definitions.specs.Write.{oneLine}
+use Rattle.definitions.specs.Write.{one_line}
 use Rattle.definitions.specs.declared.Mode.{Mode}
 use Rattle.printed.specs.declared.kinds.Shape.{Shape}
-use Rattle.printed.specs.Rows.{rowOn}
+use Rattle.printed.specs.Rows.{row_on}
 use Rattle.measures.specs.declared.rows.Extent.{Extent}
-use Rattle.measures.specs.Rows.{rowMeasured}
+use Rattle.measures.specs.Rows.{row_measured}
 
-abbrev pub commentMeasured : ℕ → ℕ → List ℕ → Checked Extent
-commentMeasured f n text =
+abbrev pub comment_measured : ℕ → ℕ → List ℕ → Checked Extent
+comment_measured f n text =
     cond (leb (f + n) (length text))
-    (cond (oneLine (take n (drop f text))) (accept (record { length = needed (n + 3); lines = 1; terms = 0 })) (refuse 15)) (refuse 11)
+    (cond (one_line (take n (drop f text))) (accept (record { length = needed (n + 3); lines = 1; terms = 0 })) (refuse 15)) (refuse 11)
 
-abbrev pub partMeasured : Shape → ℕ → ℕ → List ℤ → List ℕ → Mode → Checked Extent
-partMeasured s f n ws cs m =
-    cond (leb (f + n) (min (length ws) (length cs))) (rowMeasured m (rowOn s (take n (drop f ws)) (take n (drop f cs)))) (refuse 11)
+abbrev pub part_measured : Shape → ℕ → ℕ → List ℤ → List ℕ → Mode → Checked Extent
+part_measured s f n ws cs m =
+    cond (leb (f + n) (min (length ws) (length cs))) (row_measured m (row_on s (take n (drop f ws)) (take n (drop f cs)))) (refuse 11)

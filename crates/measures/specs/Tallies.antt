@@ -3,60 +3,60 @@
 use Rattle.std.specs.Prelude.{ℕ, ◌+◌, Bool, true, false, cond, ◌&&◌, List, [], ◌∷◌, length}
 use Rattle.std.specs.Int.Signed.{non_neg}
 use Rattle.definitions.specs.Refusal.{Checked, refuse, accept, needed}
-use Rattle.definitions.specs.Literal.{index_of, isIndex, fileNumber}
+use Rattle.definitions.specs.Literal.{index_of, is_index, file_number}
 use Rattle.definitions.specs.Row.{Term}
-use Rattle.definitions.specs.Write.{isAccepted}
+use Rattle.definitions.specs.Write.{is_accepted}
 use Rattle.shown.specs.declared.terms.Style.{Style}
 use Rattle.shown.specs.declared.terms.Shown.{Shown}
-use Rattle.shown.specs.Terms.{fallen, termWords, shownText}
-use Rattle.shown.specs.Sums.{noSums, sumsWith}
+use Rattle.shown.specs.Terms.{fallen, term_words, shown_text}
+use Rattle.shown.specs.Sums.{no_sums, sums_with}
 use Rattle.measures.specs.declared.terms.Tally.{Tally}
 use Rattle.measures.specs.declared.terms.Tallied as code
 use Rattle.measures.specs.declared.terms.Tallied.TheVariants.{Is, Refused}
 
-abbrev pub noTally : Tally
-noTally = record { sums = noSums; numbered = true; length = 0 }
+abbrev pub no_tally : Tally
+no_tally = record { sums = no_sums; numbered = true; length = 0 }
 
 -- a term without a file number has no text
-abbrev pub lengthWith : Bool → ℕ → ℕ → ℕ
-lengthWith true n m = needed (n + m)
-lengthWith false n m = n
+abbrev pub length_with : Bool → ℕ → ℕ → ℕ
+length_with true n m = needed (n + m)
+length_with false n m = n
 
 -- ---- of a term as it is printed
 
-abbrev pub shownNumber : Style → Shown → Bool
-shownNumber s x = isAccepted (fileNumber s.first x.var.0)
+abbrev pub shown_number : Style → Shown → Bool
+shown_number s x = is_accepted (file_number s.first x.var.0)
 
-unfoldable pub tallyShown : Style → Tally → Shown → Tally
-tallyShown s a x = record {
-  sums = sumsWith a.sums x.own x.falls;
-  numbered = a.numbered && shownNumber s x;
-  length = lengthWith (shownNumber s x) a.length (length (termWords x (x.var.0 + s.first)) + 1);
+unfoldable pub tally_shown : Style → Tally → Shown → Tally
+tally_shown s a x = record {
+  sums = sums_with a.sums x.own x.falls;
+  numbered = a.numbered && shown_number s x;
+  length = length_with (shown_number s x) a.length (length (term_words x (x.var.0 + s.first)) + 1);
 }
 
-abbrev pub lawfulShown : Shown → Bool
-lawfulShown x = isIndex x.var.0 && non_neg x.own
+abbrev pub lawful_shown : Shown → Bool
+lawful_shown x = is_index x.var.0 && non_neg x.own
 
 -- ---- of a term of the row
 
-abbrev pub hasNumber : Style → Term → Bool
-hasNumber s t = isAccepted (fileNumber s.first (index_of t.code))
+abbrev pub has_number : Style → Term → Bool
+has_number s t = is_accepted (file_number s.first (index_of t.code))
 
-unfoldable pub tallyWith : Style → Tally → Term → Tally
-tallyWith s a t = record {
-  sums = sumsWith a.sums t.weight (fallen s t);
-  numbered = a.numbered && hasNumber s t;
-  length = lengthWith (hasNumber s t) a.length (length (shownText s t));
+unfoldable pub tally_with : Style → Tally → Term → Tally
+tally_with s a t = record {
+  sums = sums_with a.sums t.weight (fallen s t);
+  numbered = a.numbered && has_number s t;
+  length = length_with (has_number s t) a.length (length (shown_text s t));
 }
 
 -- neither "an index above its limit" nor "a negative weight"
 abbrev pub lawful : Term → Bool
-lawful t = isIndex (index_of t.code) && non_neg t.weight
+lawful t = is_index (index_of t.code) && non_neg t.weight
 
 unfoldable pub tallied : Style → Tally → List Term → Checked Tally
 tallied s a [] = accept a
-tallied s a (t ∷ ts) = cond (lawful t) (tallied s (tallyWith s a t) ts) (refuse 11)
+tallied s a (t ∷ ts) = cond (lawful t) (tallied s (tally_with s a t) ts) (refuse 11)
 
-abbrev pub saidTally : code.Tallied → Checked Tally
-saidTally (Is t) = accept t
-saidTally Refused = refuse 11
+abbrev pub said_tally : code.Tallied → Checked Tally
+said_tally (Is t) = accept t
+said_tally Refused = refuse 11

@@ -1,9 +1,9 @@
 // One row of the table, comments too: its refusal, or what it comes to. Assumes nothing.
 ghost use Rattle.std.specs.Prelude.{◌≡◌};
-ghost use Rattle.definitions.specs.Write.{oneLine, writtenIn};
-ghost use Rattle.printed.specs.Rows.{entry_of, onColumns};
-ghost use Rattle.measures.specs.Rows.{measured, saidMeasured};
-ghost use Rattle.measures.specs.Entries.{commentMeasured, partMeasured};
+ghost use Rattle.definitions.specs.Write.{one_line, written_in};
+ghost use Rattle.printed.specs.Rows.{entry_of, on_columns};
+ghost use Rattle.measures.specs.Rows.{measured, said_measured};
+ghost use Rattle.measures.specs.Entries.{comment_measured, part_measured};
 
 use crate::rows::{Extent, Measured, row_length};
 use definitions::Mode;
@@ -11,7 +11,7 @@ use printed::{Shape, Sort, sort_of};
 
 // Not 15: "comment text with an LF".
 fn one_line(text: &[u8]) -> bool
-    ensures { result ≡ oneLine text.now }
+    ensures { result ≡ one_line text.now }
 {
     let mut i: usize = 0;
     while i < text.len() {
@@ -25,7 +25,7 @@ fn one_line(text: &[u8]) -> bool
 
 // 11: "a comment outside its lent text"; behind the text stand `* ` and the line's end.
 fn comment_length(first: usize, count: usize, text: &[u8]) -> Measured
-    ensures { saidMeasured result ≡ commentMeasured first count text.now }
+    ensures { said_measured result ≡ comment_measured first count text.now }
 {
     if !columns::in_column(first, count, text.len()) {
         return Measured::Refused(11);
@@ -51,7 +51,7 @@ fn part_length(
     literals: &[u32],
     mode: Mode,
 ) -> Measured
-    ensures { saidMeasured result ≡ partMeasured shape first count weights.now literals.now mode }
+    ensures { said_measured result ≡ part_measured shape first count weights.now literals.now mode }
 {
     let room = columns::term_room(weights, literals);
     if !columns::in_column(first, count, room) {
@@ -71,7 +71,7 @@ pub(crate) fn entry_length(
     text: &[u8],
     mode: Mode,
 ) -> Measured
-    ensures { saidMeasured result ≡ measured mode (writtenIn mode (onColumns weights.now literals.now) text.now (entry_of kind first count bound)) }
+    ensures { said_measured result ≡ measured mode (written_in mode (on_columns weights.now literals.now) text.now (entry_of kind first count bound)) }
 {
     match sort_of(kind, bound) {
         Sort::Comment => comment_length(first, count, text),

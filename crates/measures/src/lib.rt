@@ -6,7 +6,7 @@ mod terms;
 
 ghost use Rattle.std.specs.Prelude.{◌≡◌};
 ghost use Rattle.definitions.specs.Table.{table};
-ghost use Rattle.measures.specs.RowsMeasured.{addedTo, saidMeasure, extentFor};
+ghost use Rattle.measures.specs.RowsMeasured.{added_to, said_measure, extent_for};
 
 use definitions::{Mode, Refusal};
 use entries::entry_length;
@@ -22,7 +22,7 @@ pub enum Measure {
 }
 
 fn add_extent(all: Extent, more: Extent) -> Extent
-    ensures { result ≡ addedTo all more }
+    ensures { result ≡ added_to all more }
 {
     Extent {
         length: add_needed(all.length, more.length),
@@ -42,7 +42,7 @@ pub fn measure_opb_lines(
     text: &[u8],
     mode: Mode,
 ) -> Measure
-    ensures { saidMeasure result ≡ extentFor mode (table kinds.now firsts.now counts.now bounds.now weights.now literals.now) text.now }
+    ensures { said_measure result ≡ extent_for mode (table kinds.now firsts.now counts.now bounds.now weights.now literals.now) text.now }
 {
     let rows = columns::row_room(kinds, firsts, counts, bounds);
     let mut all = Extent {

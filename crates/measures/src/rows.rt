@@ -1,8 +1,8 @@
 // One row that is no comment: its refusal, or the length of its line and how many lines and terms come back of it.
 // Assumes nothing.
 ghost use Rattle.std.specs.Prelude.{◌≡◌, length};
-ghost use Rattle.printed.specs.Rows.{rowOn};
-ghost use Rattle.measures.specs.Rows.{frameText, frameLines, lacksTerms, saidMeasured, countedLength, rowMeasured};
+ghost use Rattle.printed.specs.Rows.{row_on};
+ghost use Rattle.measures.specs.Rows.{frame_text, frame_lines, lacks_terms, said_measured, counted_length, row_measured};
 
 use crate::terms::{Tallied, Tally, tally_terms};
 use definitions::{Kind, Mode};
@@ -27,7 +27,7 @@ pub(crate) enum Measured {
 
 // "constraint without terms, writing"
 fn lacks_terms(kind: Kind, count: usize) -> bool
-    ensures { result ≡ lacksTerms kind count }
+    ensures { result ≡ lacks_terms kind count }
 {
     match kind {
         Kind::AtLeast => count == 0,
@@ -39,7 +39,7 @@ fn lacks_terms(kind: Kind, count: usize) -> bool
 
 // The length of what stands around the terms. 44 bytes of an offset's line are no digits.
 fn frame_length(kind: Kind, z: i64) -> usize
-    ensures { result ≡ length (frameText kind z) }
+    ensures { result ≡ length (frame_text kind z) }
 {
     let n = lengths::number_length(z);
     match kind {
@@ -52,7 +52,7 @@ fn frame_length(kind: Kind, z: i64) -> usize
 
 // "If the final offset is not 0, a line ... follows": it comes back as a comment.
 fn frame_lines(kind: Kind, z: i64) -> u64
-    ensures { result ≡ frameLines kind z }
+    ensures { result ≡ frame_lines kind z }
 {
     match kind {
         Kind::AtLeast => 1,
@@ -64,7 +64,7 @@ fn frame_lines(kind: Kind, z: i64) -> u64
 
 // "Order per row: ..., 13, 5 (file number), 8"
 fn counted_length(shape: Shape, count: usize, t: Tally) -> Measured
-    ensures { saidMeasured result ≡ countedLength shape count t }
+    ensures { said_measured result ≡ counted_length shape count t }
 {
     let kind = shape.kind;
     if lacks_terms(kind, count) {
@@ -91,7 +91,7 @@ fn counted_length(shape: Shape, count: usize, t: Tally) -> Measured
 
 pub(crate) fn row_length(shape: Shape, weights: &[i64], literals: &[u32], mode: Mode) -> Measured
     requires { length weights.now ≡ length literals.now }
-    ensures { saidMeasured result ≡ rowMeasured mode (rowOn shape weights.now literals.now) }
+    ensures { said_measured result ≡ row_measured mode (row_on shape weights.now literals.now) }
 {
     let style = style_of(shape, mode);
     match tally_terms(style, weights, literals) {

@@ -1,7 +1,7 @@
 // The terms of a row: each is checked, and counted with its weight and the length of its text. Assumes nothing.
 ghost use Rattle.std.specs.Prelude.{◌≡◌, ◌+◌, length};
-ghost use Rattle.shown.specs.Terms.{ownTerms, termWords};
-ghost use Rattle.measures.specs.Tallies.{noTally, lawfulShown, tallyShown, tallied, saidTally};
+ghost use Rattle.shown.specs.Terms.{own_terms, term_words};
+ghost use Rattle.measures.specs.Tallies.{no_tally, lawful_shown, tally_shown, tallied, said_tally};
 
 use lengths::add_needed;
 use literals::{FileNumber, FileNumberRead};
@@ -25,7 +25,7 @@ pub(crate) enum Tallied {
 
 // The length of a term's text, with the space before or behind it.
 fn term_length(t: Shown, n: FileNumber) -> usize
-    ensures { result ≡ length (termWords t n.0) + 1 }
+    ensures { result ≡ length (term_words t n.0) + 1 }
 {
     let w = t.weight;
     let digits = lengths::number_length(w) + lengths::count_length(n.number() as u64);
@@ -33,7 +33,7 @@ fn term_length(t: Shown, n: FileNumber) -> usize
 }
 
 fn is_lawful(x: Shown) -> bool
-    ensures { result ≡ lawfulShown x }
+    ensures { result ≡ lawful_shown x }
 {
     if x.own < 0 {
         return false;
@@ -43,7 +43,7 @@ fn is_lawful(x: Shown) -> bool
 }
 
 fn tally_shown(t: Tally, style: Style, x: Shown) -> Tally
-    ensures { result ≡ tallyShown style t x }
+    ensures { result ≡ tally_shown style t x }
 {
     let old = t.sums;
     let sums = with_weight(old, x.own, x.falls);
@@ -65,7 +65,7 @@ fn tally_shown(t: Tally, style: Style, x: Shown) -> Tally
 // All terms of a row, whose part of each column is lent.
 pub(crate) fn tally_terms(style: Style, weights: &[i64], literals: &[u32]) -> Tallied
     requires { length weights.now ≡ length literals.now }
-    ensures { saidTally result ≡ tallied style noTally (ownTerms style.unit weights.now literals.now) }
+    ensures { said_tally result ≡ tallied style no_tally (own_terms style.unit weights.now literals.now) }
 {
     let none = Sums { total: 0, fall: 0 };
     let mut t = Tally {

@@ -4,6 +4,6 @@ use Rattle.definitions.specs.Refusal.{Checked, refuse, accept}
 use Rattle.normal_checks.specs.declared.RowCheck.{RowCheck}
 use Rattle.normal_checks.specs.declared.RowCheck.TheVariants as row
 
-abbrev pub saidRow : RowCheck → Checked ℕ
-saidRow (row.Accepted n) = accept n
-saidRow (row.Refused e) = refuse e
+abbrev pub said_row : RowCheck → Checked ℕ
+said_row (row.Accepted n) = accept n
+said_row (row.Refused e) = refuse e

@@ -2,12 +2,12 @@
 // terms are counted, and held against the room of the columns that are to be filled. "Row by row 11, 8; then 9, 10."
 // Assumes nothing.
 ghost use Rattle.std.specs.Prelude.{◌≡◌, ◌+◌};
-ghost use Rattle.definitions.specs.Answers.{saidCounted};
+ghost use Rattle.definitions.specs.Answers.{said_counted};
 ghost use Rattle.definitions.specs.Normal.{normalising};
 ghost use Rattle.definitions.specs.Refusal.{needed};
 ghost use Rattle.definitions.specs.Table.{table, counted};
-ghost use Rattle.normal_checks.specs.FirstWalk.{termsChecked, normalOf, termCount, normalRows, totalsNeeded, totalsWithin};
-ghost use Rattle.normal_checks.specs.Said.{saidRow};
+ghost use Rattle.normal_checks.specs.FirstWalk.{terms_checked, normal_of, term_count, normal_rows, totals_needed, totals_within};
+ghost use Rattle.normal_checks.specs.Said.{said_row};
 
 use definitions::{COMMENT, Counted, OBJECTIVE, Refusal, Totals, WEIGHT_LIMIT};
 
@@ -20,7 +20,7 @@ pub enum RowCheck {
 
 // A row of a read kind, whose terms lie in their columns: the rest of 11, then 8.
 fn check_terms(kind: u8, bound: i64, weights: &[i64], literals: &[u32]) -> RowCheck
-    ensures { saidRow result ≡ termsChecked kind bound weights.now literals.now }
+    ensures { said_row result ≡ terms_checked kind bound weights.now literals.now }
 {
     if !term_checks::indexed_of(literals) {
         return RowCheck::Refused(11);
@@ -44,7 +44,7 @@ fn check_row(
     weights: &[i64],
     literals: &[u32],
 ) -> RowCheck
-    ensures { saidRow result ≡ termCount (normalOf (record { kind = kind; first = first; count = count; bound = bound }) weights.now literals.now) }
+    ensures { said_row result ≡ term_count (normal_of (record { kind = kind; first = first; count = count; bound = bound }) weights.now literals.now) }
 {
     if kind == COMMENT {
         return RowCheck::Accepted(0);
@@ -85,7 +85,7 @@ fn count_rows(
     weights: &[i64],
     literals: &[u32],
 ) -> Counted
-    ensures { saidCounted result ≡ totalsNeeded (normalRows (table kinds.now firsts.now counts.now bounds.now weights.now literals.now)) }
+    ensures { said_counted result ≡ totals_needed (normal_rows (table kinds.now firsts.now counts.now bounds.now weights.now literals.now)) }
 {
     let rows = columns::row_room(kinds, firsts, counts, bounds);
     let mut terms: usize = 0;
@@ -106,7 +106,7 @@ fn count_rows(
 
 // "Then 9, 10."
 fn within(totals: Totals, rows: usize, terms: usize) -> Counted
-    ensures { saidCounted result ≡ totalsWithin rows terms totals }
+    ensures { said_counted result ≡ totals_within rows terms totals }
 {
     if rows < totals.rows {
         return refused(9, totals.rows);
@@ -132,7 +132,7 @@ pub fn measure_normal(
     outweights: &[i64],
     outliterals: &[u32],
 ) -> Counted
-    ensures { saidCounted result ≡ counted (normalising (table kinds.now firsts.now counts.now bounds.now weights.now literals.now)
+    ensures { said_counted result ≡ counted (normalising (table kinds.now firsts.now counts.now bounds.now weights.now literals.now)
         (table outkinds.now outfirsts.now outcounts.now outbounds.now outweights.now outliterals.now)) }
 {
     match count_rows(kinds, firsts, counts, bounds, weights, literals) {

@@ -5,13 +5,13 @@ use borrow.Author.Tests.{le-leb}
 use lib.ListN.{length}
 use Rattle.definitions.specs.declared.Refusal.{Refusal}
 use Rattle.definitions.specs.Row.{Line}
-use Rattle.definitions.specs.Table.{Table, rowRoom, termRoom, Outcome, refused, accepted, allTerms, filled, fitted, counted, after}
+use Rattle.definitions.specs.Table.{Table, row_room, term_room, Outcome, refused, accepted, all_terms, filled, fitted, counted, after}
 use Rattle.definitions.specs.declared.Totals.{Totals}
 use Rattle.definitions.specs.declared.Counted.TheVariants as answer
 use Rattle.definitions.specs.Normal.{normalising}
 use Rattle.definitions.proofs.Columns.{fitted-accepted}
 use Rattle.definitions.proofs.Truths.{never}
-use Rattle.normal_checks.specs.FirstWalk.{normalRows}
+use Rattle.normal_checks.specs.FirstWalk.{normal_rows}
 use Rattle.normaliser.specs.Fill.{Ready}
 use Rattle.normaliser.specs.Normalises.{Normalises}
 
@@ -33,15 +33,15 @@ module _ (t o : Table) where
         by : (q : Outcome (List Line)) → normalising t o ≡ q → accepted x ≡ counted q → Ready t o
         by (refused j) a f = never (cc)
         by (accepted ls) a f =
-            let g = fitted-accepted o (normalRows t) ls a in
+            let g = fitted-accepted o (normal_rows t) ls a in
             record { given = ls; accepts = g.accepts; rows = g.rows; terms = g.terms }
 
-    pub normal-filled : (o' : Table) → ((ls : List Line) → normalRows t ≡ accepted ls → o' ≡ filled ls o)
+    pub normal-filled : (o' : Table) → ((ls : List Line) → normal_rows t ≡ accepted ls → o' ≡ filled ls o)
         → Normalises t o (answer.Table x) o'
     unfolding normalising fitted after
     normal-filled o' d =
         let r = ready in
         let ls = r.given in
         let f : normalising t o ≡ accepted ls =
-        rw (r.accepts, le-leb (length ls) (rowRoom o) r.rows, le-leb (length (allTerms ls)) (termRoom o) r.terms) in
+        rw (r.accepts, le-leb (length ls) (row_room o) r.rows, le-leb (length (all_terms ls)) (term_room o) r.terms) in
         record { answer = e; after = d ls r.accepts ∙ ap (λ (q : Outcome (List Line)). after q o) (sym f) }

@@ -9,15 +9,15 @@ use lib.IntN.{ℤ, ◌+ℤ◌}
 use lib.ListN.{length, take, drop, set, length-map, length-drop}
 use Rattle.definitions.specs.Lists.{joined}
 use Rattle.definitions.specs.Refusal.{accept}
-use Rattle.definitions.specs.Row.{weightOf, literalOf, Line, termsOf}
-use Rattle.definitions.specs.Table.{Table, table, rowRoom, termRoom, Outcome, accepted, entries, termsOn, termsAt, allTerms, filled}
+use Rattle.definitions.specs.Row.{weight_of, literal_of, Line, terms_of}
+use Rattle.definitions.specs.Table.{Table, table, row_room, term_room, Outcome, accepted, entries, terms_on, terms_at, all_terms, filled}
 use Rattle.definitions.specs.declared.Entry.{Entry}
-use Rattle.definitions.specs.Normal.{normalTerm, normal, normalIn}
+use Rattle.definitions.specs.Normal.{normal_term, normal, normal_in}
 use Rattle.columns.proofs.EntryLaws.{entry_at, entries_from, entries-end}
-use Rattle.term_checks.proofs.Terms.{weightsAt, literalsAt, terms-at, weights-at-count, literals-at-count, terms-at-count}
-use Rattle.columns.specs.Kinds.{readKind}
-use Rattle.shifts.specs.Shifts.{weightRises, shift_by}
-use Rattle.normal_checks.specs.FirstWalk.{normalOf, normalRows}
+use Rattle.term_checks.proofs.Terms.{weights_at, literals_at, terms-at, weights-at-count, literals-at-count, terms-at-count}
+use Rattle.columns.specs.Kinds.{read_kind}
+use Rattle.shifts.specs.Shifts.{weight_rises, shift_by}
+use Rattle.normal_checks.specs.FirstWalk.{normal_of, normal_rows}
 use Rattle.normal_checks.proofs.Checks.{normal-of}
 use Rattle.normal_checks.proofs.Entries.{on, normal-bound, accepted-comment, ReadRow, accepted-row, kind-kept, count_kept}
 use Rattle.normaliser.specs.Fill.{TermsFilled, TermsReady, RowReady, LineFilled, RowFilled, Ready}
@@ -30,22 +30,22 @@ use Rattle.definitions.proofs.Columns.{passed-begins}
 
 module _ (ws : List ℤ) (cs : List ℕ) (e : Entry) (w₀ : List ℤ) (l₀ : List ℕ) where
   -- what is asked for a row of a read kind
-  module _ (h : e.kind ≡ 0 → ⊥) (r : RowReady (normalOf e ws cs) w₀ l₀) where
+  module _ (h : e.kind ≡ 0 → ⊥) (r : RowReady (normal_of e ws cs) w₀ l₀) where
     given : ReadRow ws cs e r.given r.accepts
     given = accepted-row ws cs e r.given r.accepts h
 
     pub row_within : e.first + e.count ≤ min (length ws) (length cs)
     row_within = leb-true (e.first + e.count) (min (length ws) (length cs)) given.inside
 
-    pub row-ready : TermsReady (weightsAt (on ws cs e) e) (literalsAt (on ws cs e) e) w₀ l₀
+    pub row-ready : TermsReady (weights_at (on ws cs e) e) (literals_at (on ws cs e) e) w₀ l₀
     unfolding normal
     row-ready =
         let i = given.inside in
         let t = on ws cs e in
-        let n : length (weightsAt t e) ≡ e.count = weights-at-count t e i in
-        let m : length (literalsAt t e) ≡ e.count = literals-at-count t e i in
-        let k : length (termsOf r.given) ≡ e.count =
-        ap (λ (y : Line). length (termsOf y)) given.is ∙ length-map (termsAt t e) normalTerm ∙ terms-at-count t e i in
+        let n : length (weights_at t e) ≡ e.count = weights-at-count t e i in
+        let m : length (literals_at t e) ≡ e.count = literals-at-count t e i in
+        let k : length (terms_of r.given) ≡ e.count =
+        ap (λ (y : Line). length (terms_of y)) given.is ∙ length-map (terms_at t e) normal_term ∙ terms-at-count t e i in
         record {
           even = n ∙ sym m;
           small = given.small;
@@ -55,7 +55,7 @@ module _ (ws : List ℤ) (cs : List ℕ) (e : Entry) (w₀ : List ℤ) (l₀ : L
 
   -- what is left
   module _ (m : ℕ) where
-    pub filled-comment : e.kind ≡ 0 → RowFilled (normalOf e ws cs) m w₀ l₀ (record { first = e.first; bound = e.bound; terms = 0 }) w₀ l₀
+    pub filled-comment : e.kind ≡ 0 → RowFilled (normal_of e ws cs) m w₀ l₀ (record { first = e.first; bound = e.bound; terms = 0 }) w₀ l₀
     filled-comment k y a =
         rw (accepted-comment ws cs e y a k) (record {
           first = refl;
@@ -65,10 +65,10 @@ module _ (ws : List ℤ) (cs : List ℕ) (e : Entry) (w₀ : List ℤ) (l₀ : L
         })
 
     pub filled_row : (e.kind ≡ 0 → ⊥) → (w : List ℤ) (l : List ℕ)
-        → TermsFilled (map normalTerm (termsOn (weightsAt (on ws cs e) e) (literalsAt (on ws cs e) e))) w₀ l₀ w l
-        → RowFilled (normalOf e ws cs) m w₀ l₀ (record {
+        → TermsFilled (map normal_term (terms_on (weights_at (on ws cs e) e) (literals_at (on ws cs e) e))) w₀ l₀ w l
+        → RowFilled (normal_of e ws cs) m w₀ l₀ (record {
           first = m;
-          bound = e.bound +ℤ shift_by (readKind e.kind) (weightRises (weightsAt (on ws cs e) e));
+          bound = e.bound +ℤ shift_by (read_kind e.kind) (weight_rises (weights_at (on ws cs e) e));
           terms = e.count;
         }) w l
     unfolding normal
@@ -79,7 +79,7 @@ module _ (ws : List ℤ) (cs : List ℕ) (e : Entry) (w₀ : List ℤ) (l₀ : L
         (record {
           first = refl;
           bound = sym (normal-bound ws cs e h g.known g.inside);
-          terms = sym (length-map (termsAt t e) normalTerm ∙ terms-at-count t e g.inside);
+          terms = sym (length-map (terms_at t e) normal_term ∙ terms-at-count t e g.inside);
           filled = rw (terms-at t e) f;
         })
 
@@ -89,58 +89,58 @@ module _ (t o : Table) where
   -- i rows of t filled, with so many terms, into a table that was o
   pub record Filling (i term : ℕ) (x : Table) : Type 0 where
     pub pre : List Line
-    pub passed : Passed (normalIn t) (entries t) i pre
-    pub terms-are : term ≡ length (allTerms pre)
+    pub passed : Passed (normal_in t) (entries t) i pre
+    pub terms-are : term ≡ length (all_terms pre)
     pub now-is : x ≡ filled pre o
 
   pub filling-none : Filling 0 0 o
   unfolding joined
-  filling-none = record { pre = []; passed = passed_none (normalIn t) (entries t); terms-are = refl; now-is = sym (filled_none o) }
+  filling-none = record { pre = []; passed = passed_none (normal_in t) (entries t); terms-are = refl; now-is = sym (filled_none o) }
 
   module _ (ready : Ready t o) (i term : ℕ) (x : Table) (f : Filling i term x) where
     pub filling-lengths : Lengths x o
     filling-lengths =
-        let p = passed-begins (normalIn t) (entries t) i f.pre f.passed ready.given ready.accepts in
+        let p = passed-begins (normal_in t) (entries t) i f.pre f.passed ready.given ready.accepts in
         rw f.now-is
         (filled-lengths f.pre o (omega (arith, begins-length f.pre ready.given p, ready.rows))
         (omega (arith, begins-terms f.pre ready.given p, ready.terms)))
 
-    pub filling-all : rowRoom t ≤ i → (ls : List Line) → normalRows t ≡ accepted ls → x ≡ filled ls o
+    pub filling-all : row_room t ≤ i → (ls : List Line) → normal_rows t ≡ accepted ls → x ≡ filled ls o
     filling-all h ls e =
         f.now-is ∙ ap (λ (ys : List Line). filled ys o)
-        (same (passed-all (normalIn t) (entries t) i f.pre f.passed (entries-end t i h)) e)
+        (same (passed-all (normal_in t) (entries t) i f.pre f.passed (entries-end t i h)) e)
       where
         same : {q : Outcome (List Line)} {ys zs : List Line} → q ≡ accepted ys → q ≡ accepted zs → ys ≡ zs
         same a b = cc
 
     -- the row at i
-    module _ (h : i < rowRoom t) where
-      pub next : Next (normalIn t) (entries t) i f.pre f.passed (entry_at t i) (entries_from t i h) ready.given ready.accepts
-      next = passed-next (normalIn t) (entries t) i f.pre f.passed (entry_at t i) (entries_from t i h) ready.given ready.accepts
+    module _ (h : i < row_room t) where
+      pub next : Next (normal_in t) (entries t) i f.pre f.passed (entry_at t i) (entries_from t i h) ready.given ready.accepts
+      next = passed-next (normal_in t) (entries t) i f.pre f.passed (entry_at t i) (entries_from t i h) ready.given ready.accepts
 
       abbrev pub line : Line
       line = next.value
 
-      pub line-accepted : normalOf (entry_at t i) t.weights t.literals ≡ accept line
+      pub line-accepted : normal_of (entry_at t i) t.weights t.literals ≡ accept line
       line-accepted = sym (normal-of t (entry_at t i)) ∙ next.accepts
 
-      more : Passed (normalIn t) (entries t) (i + 1) (f.pre ++ (line ∷ []))
-      more = passed-more (normalIn t) (entries t) i f.pre f.passed (entry_at t i) (entries_from t i h) line next.accepts
+      more : Passed (normal_in t) (entries t) (i + 1) (f.pre ++ (line ∷ []))
+      more = passed-more (normal_in t) (entries t) i f.pre f.passed (entry_at t i) (entries_from t i h) line next.accepts
 
       pub record Fit : Type 0 where
-        pub rows : i < rowRoom o
-        pub terms : term + length (termsOf line) ≤ termRoom o
+        pub rows : i < row_room o
+        pub terms : term + length (terms_of line) ≤ term_room o
 
       pub filling-fit : Fit
       filling-fit =
-          let p = passed-begins (normalIn t) (entries t) (i + 1) (f.pre ++ (line ∷ [])) more ready.given ready.accepts in
+          let p = passed-begins (normal_in t) (entries t) (i + 1) (f.pre ++ (line ∷ [])) more ready.given ready.accepts in
           record {
             rows = omega (arith, begins-length (f.pre ++ (line ∷ [])) ready.given p, more.count, ready.rows);
             terms =
                 omega (arith, begins-terms (f.pre ++ (line ∷ [])) ready.given p, terms-snoc f.pre line, f.terms-are, ready.terms);
           }
 
-      pub filling-ready : RowReady (normalOf (entry_at t i) t.weights t.literals)
+      pub filling-ready : RowReady (normal_of (entry_at t i) t.weights t.literals)
           (take (length x.weights - term) (drop term x.weights)) (take (length x.literals - term) (drop term x.literals))
       filling-ready =
           record {
@@ -173,6 +173,6 @@ module _ (t o : Table) where
             passed = more;
             terms-are = omega (arith, terms-snoc f.pre line, f.terms-are);
             now-is = filled_more f.pre line o i term (sym f.passed.count) f.terms-are filling-fit.rows x _ _ f.now-is
-                (part-back x.weights (map weightOf (termsOf line)) w term d.filled.weights)
-                (part-back x.literals (map literalOf (termsOf line)) l term d.filled.literals);
+                (part-back x.weights (map weight_of (terms_of line)) w term d.filled.weights)
+                (part-back x.literals (map literal_of (terms_of line)) l term d.filled.literals);
           })

@@ -13,15 +13,15 @@ pub data Meaning : Type 0 where
   constraint : Bool → Meaning
   goal : ℤ → Meaning
 
-abbrev pub meaningBy : Kind → Bool → ℤ → Meaning
-meaningBy at_least h v = constraint h
-meaningBy at_most h v = constraint h
-meaningBy equal h v = constraint h
-meaningBy objective h v = goal v
+abbrev pub meaning_by : Kind → Bool → ℤ → Meaning
+meaning_by at_least h v = constraint h
+meaning_by at_most h v = constraint h
+meaning_by equal h v = constraint h
+meaning_by objective h v = goal v
 
-unfoldable pub meaningOf : Assignment → Line → Meaning
-meaningOf a (comment f n b) = remark f n b
-meaningOf a (row r) = meaningBy r.kind (holds a r) (value_of a r)
+unfoldable pub meaning_of : Assignment → Line → Meaning
+meaning_of a (comment f n b) = remark f n b
+meaning_of a (row r) = meaning_by r.kind (holds a r) (value_of a r)
 
 unfoldable pub normalised : Line → Line
 normalised (comment f n b) = comment f n b

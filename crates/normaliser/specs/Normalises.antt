@@ -2,10 +2,10 @@
 use Rattle.std.specs.Prelude.{◌≡◌}
 use Rattle.definitions.specs.Table.{Table, counted, after}
 use Rattle.definitions.specs.Normal.{normalising}
-use Rattle.definitions.specs.Answers.{saidCounted}
+use Rattle.definitions.specs.Answers.{said_counted}
 use Rattle.definitions.specs.declared.Counted.{Counted}
 
 -- the rows of the table t, normal, into the table o, which is o' after the call
 pub record Normalises (t o : Table) (r : Counted) (o' : Table) : Type 0 where
-  pub answer : saidCounted r ≡ counted (normalising t o)
+  pub answer : said_counted r ≡ counted (normalising t o)
   pub after : o' ≡ after (normalising t o) o

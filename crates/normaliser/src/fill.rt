@@ -1,12 +1,12 @@
 // The second walk over rows that are all accepted, into columns that have room: what the first walk counted is filled,
 // "packed row after row". Each function asks for just that, so all are the crate's own. Assumes nothing.
 ghost use Rattle.std.specs.Prelude.{◌≡◌, List, map, ◌≤◌, nat_abs};
-ghost use Rattle.definitions.specs.Limits.{weightLimit};
+ghost use Rattle.definitions.specs.Limits.{weight_limit};
 ghost use Rattle.definitions.specs.Row.{Line};
-ghost use Rattle.definitions.specs.Table.{table, termsOn, accepted, filled};
-ghost use Rattle.definitions.specs.Normal.{normalBy, normalTerm};
-ghost use Rattle.normal_checks.specs.FirstWalk.{normalOf, normalRows};
-ghost use Rattle.normaliser.specs.Fill.{saidTerm, TermsReady, TermsFilled, RowReady, RowFilled, Ready};
+ghost use Rattle.definitions.specs.Table.{table, terms_on, accepted, filled};
+ghost use Rattle.definitions.specs.Normal.{normal_by, normal_term};
+ghost use Rattle.normal_checks.specs.FirstWalk.{normal_of, normal_rows};
+ghost use Rattle.normaliser.specs.Fill.{said_term, TermsReady, TermsFilled, RowReady, RowFilled, Ready};
 
 use definitions::COMMENT;
 use literals::Lit;
@@ -28,8 +28,8 @@ pub struct Filled {
 
 // "Normalising turns each negative weight w on literal l into -w on the opposite literal."
 fn normal_term(weight: i64, literal: Lit) -> NormalTerm
-    requires { nat_abs weight ≤ weightLimit }
-    ensures { saidTerm result ≡ normalBy weight literal.0 }
+    requires { nat_abs weight ≤ weight_limit }
+    ensures { said_term result ≡ normal_by weight literal.0 }
 {
     let opposite = literal.negated();
     if weight < 0 {
@@ -45,7 +45,7 @@ fn normal_term(weight: i64, literal: Lit) -> NormalTerm
 // "Order and count of terms stay."
 fn fill_terms(weights: &[i64], literals: &[u32], outweights: &mut [i64], outliterals: &mut [u32])
     requires { TermsReady weights.now literals.now outweights.old outliterals.old }
-    ensures { TermsFilled (map normalTerm (termsOn weights.now literals.now)) outweights.old outliterals.old outweights.new outliterals.new }
+    ensures { TermsFilled (map normal_term (terms_on weights.now literals.now)) outweights.old outliterals.old outweights.new outliterals.new }
 {
     let mut i: usize = 0;
     while i < weights.len() {
@@ -69,8 +69,8 @@ fn fill_row(
     outweights: &mut [i64],
     outliterals: &mut [u32],
 ) -> Filled
-    requires { RowReady (normalOf (record { kind = kind; first = first; count = count; bound = bound }) weights.now literals.now) outweights.old outliterals.old }
-    ensures { RowFilled (normalOf (record { kind = kind; first = first; count = count; bound = bound }) weights.now literals.now) term outweights.old outliterals.old result outweights.new outliterals.new }
+    requires { RowReady (normal_of (record { kind = kind; first = first; count = count; bound = bound }) weights.now literals.now) outweights.old outliterals.old }
+    ensures { RowFilled (normal_of (record { kind = kind; first = first; count = count; bound = bound }) weights.now literals.now) term outweights.old outliterals.old result outweights.new outliterals.new }
 {
     if kind == COMMENT {
         return Filled {
@@ -110,7 +110,7 @@ pub(crate) fn fill_rows(
     outliterals: &mut [u32],
 )
     requires { Ready (table kinds.now firsts.now counts.now bounds.now weights.now literals.now) (table outkinds.old outfirsts.old outcounts.old outbounds.old outweights.old outliterals.old) }
-    ensures { (ls : List Line) → normalRows (table kinds.now firsts.now counts.now bounds.now weights.now literals.now) ≡ accepted ls
+    ensures { (ls : List Line) → normal_rows (table kinds.now firsts.now counts.now bounds.now weights.now literals.now) ≡ accepted ls
         → table outkinds.new outfirsts.new outcounts.new outbounds.new outweights.new outliterals.new
         ≡ filled ls (table outkinds.old outfirsts.old outcounts.old outbounds.old outweights.old outliterals.old) }
 {

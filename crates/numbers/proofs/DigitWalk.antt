@@ -13,7 +13,7 @@ use types.Run.{OneOf}
 use Rattle.definitions.specs.Refusal.{fault}
 use Rattle.definitions.specs.Bytes.{plus, minus}
 use Rattle.definitions.specs.Reader.{none, got}
-use Rattle.definitions.specs.Number.{leading, valueOn, value, signed, ended, number}
+use Rattle.definitions.specs.Number.{leading, value_on, value, signed, ended, number}
 use Rattle.definitions.proofs.Numbers.{leading-digit, leading_low, leading-high, leading_length, value-snoc, most}
 use Rattle.definitions.proofs.Numbers.{signed-within, signed-beyond, number-minus, number-plus, ended-none, ended-beyond, ended-got}
 use Rattle.numbers.specs.declared.Run.{Run}
@@ -29,7 +29,7 @@ abbrev run : ℕ → ℕ → Run
 run i m = record { count = i; size = m }
 
 pub walked_none : (s : List ℕ) → Walked s 0 0
-unfolding valueOn
+unfolding value_on
 walked_none s = record { within = omega arith; passed = refl; size = refl }
 
 module _ (s : List ℕ) (i m : ℕ) (w : Walked s i m) where

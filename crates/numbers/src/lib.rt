@@ -1,6 +1,6 @@
 // Integers read: a number, or the digits alone, at the front of a part of a file, and a number's size. Assumes nothing.
 ghost use Rattle.std.specs.Prelude.{◌≡◌, true, ◌+◌, ◌<◌, ◌^◌, length, nat_abs};
-ghost use Rattle.definitions.specs.Limits.{inI64};
+ghost use Rattle.definitions.specs.Limits.{in_i64};
 ghost use Rattle.definitions.specs.Number.{leading, signed, ended, number};
 ghost use Rattle.numbers.specs.Read.{said, run_of};
 
@@ -46,7 +46,7 @@ pub fn read_run(s: &[u8]) -> Run
 
 // The number of a sign and a size. The least number is reached from above, since its size is no signed number.
 fn signed_of(negative: bool, size: u64) -> i64
-    requires { inI64 (signed negative size) ≡ true }
+    requires { in_i64 (signed negative size) ≡ true }
     ensures { result ≡ signed negative size }
 {
     if negative {

@@ -2,14 +2,14 @@
 use Prim.Native.Nat.{ℕ}
 use mathlib.Core.Path.{◌≡◌, sym, ap, ◌∙◌}
 use mathlib.Core.List.{List}
-use Rattle.definitions.specs.Answers.{saidLength}
+use Rattle.definitions.specs.Answers.{said_length}
 use Rattle.definitions.specs.declared.Length.{Length}
 use Rattle.values.specs.Reads.{ReadsValues}
-use Rattle.opb_assignments.specs.ByValue.{lengthAnswer}
+use Rattle.opb_assignments.specs.ByValue.{length_answer}
 use Rattle.opb_assignments.specs.Calls.{ReadsBlock}
 use Rattle.opb_assignments.specs.declared.OpbLength.{OpbLength}
 
 pub values-told : (s : List ℕ) (n : ℕ) (ws ks ws' ks' : List ℕ) (r : OpbLength) (a b : Length) → ReadsValues s n ws ks a ws' ks'
-    → a ≡ b → r ≡ lengthAnswer (saidLength b) → ReadsBlock s n ws ks r ws' ks'
+    → a ≡ b → r ≡ length_answer (said_length b) → ReadsBlock s n ws ks r ws' ks'
 values-told s n ws ks ws' ks' r a b reads q e =
-    record { answer = e ∙ ap lengthAnswer (sym (ap saidLength q) ∙ reads.answer); values = reads.values; known = reads.known }
+    record { answer = e ∙ ap length_answer (sym (ap said_length q) ∙ reads.answer); values = reads.values; known = reads.known }

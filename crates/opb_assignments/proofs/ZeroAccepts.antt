@@ -4,13 +4,13 @@ use mathlib.Core.Path.{◌≡◌, refl}
 use mathlib.Core.List.{List}
 use Rattle.definitions.specs.Table.{Outcome, refused, accepted}
 use Rattle.definitions.specs.Accepts.{number_of, Tells}
-use Rattle.definitions.specs.Values.{valuing, newLength}
+use Rattle.definitions.specs.Values.{valuing, new_length}
 use Rattle.laws.proofs.ZeroAccepts.{valuing-tells}
-use Rattle.opb_assignments.specs.ByValue.{lengthAnswer}
+use Rattle.opb_assignments.specs.ByValue.{length_answer}
 use Rattle.opb_assignments.specs.Calls.{ReadsBlock}
 use Rattle.opb_assignments.specs.declared.OpbLength.{OpbLength}
 
-number : (n : ℕ) (x : Outcome (List ℕ)) → (lengthAnswer (newLength n x)).refusal ≡ number_of x
+number : (n : ℕ) (x : Outcome (List ℕ)) → (length_answer (new_length n x)).refusal ≡ number_of x
 number n (refused r) = refl
 number n (accepted cs) = refl
 

@@ -4,6 +4,6 @@ use Rattle.std.specs.Prelude.{ℕ}
 use Rattle.definitions.specs.Table.{Outcome, refused, accepted}
 use Rattle.opb_assignments.specs.declared.OpbLength.{OpbLength}
 
-abbrev pub lengthAnswer : Outcome ℕ → OpbLength
-lengthAnswer (refused r) = record { refusal = r.number; place = r.place; length = 0 }
-lengthAnswer (accepted n) = record { refusal = 0; place = 0; length = n }
+abbrev pub length_answer : Outcome ℕ → OpbLength
+length_answer (refused r) = record { refusal = r.number; place = r.place; length = 0 }
+length_answer (accepted n) = record { refusal = 0; place = 0; length = n }

@@ -5,7 +5,7 @@
 ghost use Rattle.std.specs.Prelude.{◌≡◌};
 ghost use Rattle.definitions.specs.Refusal.{refusal};
 ghost use Rattle.definitions.specs.Table.{refused, accepted};
-ghost use Rattle.opb_assignments.specs.ByValue.{lengthAnswer};
+ghost use Rattle.opb_assignments.specs.ByValue.{length_answer};
 ghost use Rattle.opb_assignments.specs.Calls.{ReadsBlock};
 
 use definitions::Length;
@@ -21,7 +21,7 @@ pub struct OpbLength {
 }
 
 fn refused_length(number: u8, place: u64) -> OpbLength
-    ensures { result ≡ lengthAnswer (refused (refusal number place)) }
+    ensures { result ≡ length_answer (refused (refusal number place)) }
 {
     OpbLength {
         refusal: number,
@@ -31,7 +31,7 @@ fn refused_length(number: u8, place: u64) -> OpbLength
 }
 
 fn length_of(length: u64) -> OpbLength
-    ensures { result ≡ lengthAnswer (accepted length) }
+    ensures { result ≡ length_answer (accepted length) }
 {
     OpbLength {
         refusal: 0,

@@ -10,10 +10,10 @@ use Rattle.opb_rows.specs.declared.evaluating.OpbValue.{OpbValue}
 abbrev pub truth : Bool → ℕ
 truth b = cond b 1 0
 
-abbrev pub foundAnswer : Evaluated → OpbValue
-foundAnswer (constraint sum holds ones) = record { refusal = 0; place = 0; value = sum; holds = truth holds; ones = ones }
-foundAnswer (goal value ones) = record { refusal = 0; place = 0; value = value; holds = 2; ones = ones }
+abbrev pub found_answer : Evaluated → OpbValue
+found_answer (constraint sum holds ones) = record { refusal = 0; place = 0; value = sum; holds = truth holds; ones = ones }
+found_answer (goal value ones) = record { refusal = 0; place = 0; value = value; holds = 2; ones = ones }
 
-abbrev pub valueAnswer : Outcome Evaluated → OpbValue
-valueAnswer (refused r) = record { refusal = r.number; place = r.place; value = pos 0; holds = 0; ones = 0 }
-valueAnswer (accepted e) = foundAnswer e
+abbrev pub value_answer : Outcome Evaluated → OpbValue
+value_answer (refused r) = record { refusal = r.number; place = r.place; value = pos 0; holds = 0; ones = 0 }
+value_answer (accepted e) = found_answer e

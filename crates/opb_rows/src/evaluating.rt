@@ -1,9 +1,9 @@
 // One row under an assignment, with the number of ones in its words. Assumes nothing.
 ghost use Rattle.std.specs.Prelude.{◌≡◌};
 ghost use Rattle.definitions.specs.Table.{table};
-ghost use Rattle.verdicts.specs.Said.{saidEvaluated};
-ghost use Rattle.opb_rows.specs.ByValue.{truth, valueAnswer};
-ghost use Rattle.opb_rows.specs.Calls.{evaluateAnswer, evaluateKnownAnswer};
+ghost use Rattle.verdicts.specs.Said.{said_evaluated};
+ghost use Rattle.opb_rows.specs.ByValue.{truth, value_answer};
+ghost use Rattle.opb_rows.specs.Calls.{evaluate_answer, evaluate_known_answer};
 
 use verdicts::Evaluated;
 
@@ -29,7 +29,7 @@ fn one_if(holds: bool) -> u8
 
 // An objective is told from a constraint by `holds`.
 pub(crate) fn value_of(found: Evaluated) -> OpbValue
-    ensures { result ≡ valueAnswer (saidEvaluated found) }
+    ensures { result ≡ value_answer (said_evaluated found) }
 {
     match found {
         Evaluated::Refused(refusal) => OpbValue {
@@ -68,7 +68,7 @@ pub extern "C" fn opb_evaluate(
     row: usize,
     words: &[u64],
 ) -> OpbValue
-    ensures { result ≡ evaluateAnswer (table kinds.now firsts.now counts.now bounds.now weights.now literals.now) row words.now }
+    ensures { result ≡ evaluate_answer (table kinds.now firsts.now counts.now bounds.now weights.now literals.now) row words.now }
 {
     value_of(evaluator::evaluate(kinds, firsts, counts, bounds, weights, literals, row, words))
 }
@@ -87,7 +87,7 @@ pub extern "C" fn opb_evaluate_known(
     values: &[u64],
     known: &[u64],
 ) -> OpbValue
-    ensures { result ≡ evaluateKnownAnswer (table kinds.now firsts.now counts.now bounds.now weights.now literals.now) row values.now known.now }
+    ensures { result ≡ evaluate_known_answer (table kinds.now firsts.now counts.now bounds.now weights.now literals.now) row values.now known.now }
 {
     value_of(evaluator::evaluate_known(
         kinds, firsts, counts, bounds, weights, literals, row, values, known,

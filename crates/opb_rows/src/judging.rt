@@ -2,7 +2,7 @@
 // row's terms. Assumes nothing.
 ghost use Rattle.std.specs.Prelude.{◌≡◌};
 ghost use Rattle.definitions.specs.Table.{table};
-ghost use Rattle.opb_rows.specs.Calls.{judgeAnswer};
+ghost use Rattle.opb_rows.specs.Calls.{judge_answer};
 
 use crate::evaluating::{OpbValue, value_of};
 
@@ -20,7 +20,7 @@ pub extern "C" fn opb_judge(
     values: &[u64],
     known: &[u64],
 ) -> OpbValue
-    ensures { result ≡ judgeAnswer (table kinds.now firsts.now counts.now bounds.now weights.now literals.now) row values.now known.now }
+    ensures { result ≡ judge_answer (table kinds.now firsts.now counts.now bounds.now weights.now literals.now) row values.now known.now }
 {
     value_of(evaluator::judge(
         kinds, firsts, counts, bounds, weights, literals, row, values, known,

@@ -8,15 +8,15 @@ use Rattle.definitions.specs.Accepts.{number_of, Tells}
 use Rattle.definitions.specs.File.{first_at, file, reading}
 use Rattle.definitions.specs.Normal.{normalising}
 use Rattle.laws.proofs.ZeroAccepts.{file-tells, reading-tells, normalising-tells}
-use Rattle.table_answers.specs.ByValue.{tableAnswer}
-use Rattle.opb_tables.specs.Calls.{countAnswer, ReadsFile, NormalisesTable}
+use Rattle.table_answers.specs.ByValue.{table_answer}
+use Rattle.opb_tables.specs.Calls.{count_answer, ReadsFile, NormalisesTable}
 use Rattle.table_answers.specs.declared.OpbTable.{OpbTable}
 
-number : (x : Outcome (List Line)) → (tableAnswer (counted x)).refusal ≡ number_of x
+number : (x : Outcome (List Line)) → (table_answer (counted x)).refusal ≡ number_of x
 number (refused r) = refl
 number (accepted ls) = refl
 
-pub count-tells : (first : ℕ) (s : List ℕ) → Tells (countAnswer first s).refusal (file (first_at first) s)
+pub count-tells : (first : ℕ) (s : List ℕ) → Tells (count_answer first s).refusal (file (first_at first) s)
 count-tells first s = rw (number (file (first_at first) s)) (file-tells (first_at first) s)
 
 pub read-tells : (first : ℕ) (s : List ℕ) (t : Table) (r : OpbTable) (t' : Table) → ReadsFile first s t r t'

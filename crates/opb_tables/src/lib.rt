@@ -4,7 +4,7 @@
 // the front. specs/Calls.antt says what each promises. Assumes nothing.
 ghost use Rattle.std.specs.Prelude.{◌≡◌};
 ghost use Rattle.definitions.specs.Table.{table};
-ghost use Rattle.opb_tables.specs.Calls.{countAnswer, ReadsFile, NormalisesTable};
+ghost use Rattle.opb_tables.specs.Calls.{count_answer, ReadsFile, NormalisesTable};
 
 use definitions::Options;
 use table_answers::{OpbTable, table_answer};
@@ -12,7 +12,7 @@ use table_answers::{OpbTable, table_answer};
 // The rows and terms of a file, so that columns for them can be had. Refusals 1 to 8; 9 and 10 ask for columns.
 #[unsafe(no_mangle)]
 pub extern "C" fn opb_count(file: &[u8], first: u32) -> OpbTable
-    ensures { result ≡ countAnswer first file.now }
+    ensures { result ≡ count_answer first file.now }
 {
     table_answer(counts::count_file(file, Options { first }))
 }

@@ -5,9 +5,9 @@ use Rattle.definitions.specs.Table.{Outcome, refused, accepted}
 use Rattle.definitions.specs.Write.{length_of}
 use Rattle.opb_texts.specs.declared.OpbText.{OpbText}
 
-abbrev pub lengthAnswer : Outcome ℕ → OpbText
-lengthAnswer (refused r) = record { refusal = r.number; place = r.place; length = 0 }
-lengthAnswer (accepted n) = record { refusal = 0; place = 0; length = n }
+abbrev pub length_answer : Outcome ℕ → OpbText
+length_answer (refused r) = record { refusal = r.number; place = r.place; length = 0 }
+length_answer (accepted n) = record { refusal = 0; place = 0; length = n }
 
-abbrev pub textAnswer : Outcome (List ℕ) → OpbText
-textAnswer x = lengthAnswer (length_of x)
+abbrev pub text_answer : Outcome (List ℕ) → OpbText
+text_answer x = length_answer (length_of x)

@@ -3,9 +3,9 @@
 // asks anything of what it is lent but that it is there. A refused call changes no byte of the output; 14 has the
 // length needed as its place. specs/Calls.antt says what each promises. Assumes nothing.
 ghost use Rattle.std.specs.Prelude.{◌≡◌};
-ghost use Rattle.definitions.specs.Answers.{saidLength};
+ghost use Rattle.definitions.specs.Answers.{said_length};
 ghost use Rattle.definitions.specs.Table.{table};
-ghost use Rattle.opb_texts.specs.ByValue.{lengthAnswer};
+ghost use Rattle.opb_texts.specs.ByValue.{length_answer};
 ghost use Rattle.opb_texts.specs.Calls.{WritesLines, ListsTable};
 
 use definitions::{Length, Mode};
@@ -22,7 +22,7 @@ pub struct OpbText {
 
 // What a callee answers, as C has it.
 fn text_answer(found: Length) -> OpbText
-    ensures { result ≡ lengthAnswer (saidLength found) }
+    ensures { result ≡ length_answer (said_length found) }
 {
     match found {
         Length::Refused(why) => OpbText {

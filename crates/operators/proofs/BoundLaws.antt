@@ -8,7 +8,7 @@ use lib.IntN.{ℤ, pos, negsuc, ◌+ℤ◌, ◌-ℤ◌}
 use mir.Syntax.{w64}
 use mir.Val.{SFits, to_z, of_z}
 use mir.Facts.{to_z-of_z}
-use Rattle.definitions.specs.Limits.{least, greatest, inI64}
+use Rattle.definitions.specs.Limits.{least, greatest, in_i64}
 use Rattle.definitions.specs.Refusal.{refuse, accept}
 use Rattle.definitions.proofs.Truths.{never}
 use Rattle.definitions.proofs.Whole.{up, dn, up_pos, dn-pos, one_side, sum_is, diff_is, in-up, in-dn, is-in, in-true}
@@ -24,11 +24,11 @@ in-compared z f = rw (in-true z f)
 
 -- one below the least number, and one above the greatest
 pub least-less : refuse 8 ≡ compared (least -ℤ pos 1)
-unfolding compared inI64
+unfolding compared in_i64
 least-less = refl
 
 pub greatest-more : refuse 8 ≡ compared (greatest +ℤ pos 1)
-unfolding compared inI64
+unfolding compared in_i64
 greatest-more = refl
 
 above-least : (z : ℤ) → SFits w64 z → (z ≡ least → ⊥) → dn z < 2 ^ 63
@@ -55,18 +55,18 @@ module _ (z : ℤ) (f : SFits w64 z) where
       (omega (arith, sum_is z (pos 1), up_pos 1, dn-pos 1, in-dn z f, one_side y))
 
 -- what was compared: the number itself where it is in 64 bits
-pub compared-accept : (z b : ℤ) → accept b ≡ compared z → (inI64 z ≡ true) × (b ≡ z)
+pub compared-accept : (z b : ℤ) → accept b ≡ compared z → (in_i64 z ≡ true) × (b ≡ z)
 unfolding compared
-compared-accept z b e = by (inI64 z) refl
+compared-accept z b e = by (in_i64 z) refl
   where
-    by : (t : Bool) → inI64 z ≡ t → (inI64 z ≡ true) × (b ≡ z)
+    by : (t : Bool) → in_i64 z ≡ t → (in_i64 z ≡ true) × (b ≡ z)
     by true q = let a : accept b ≡ accept z = rw q at e in (q, cc)
     by false q = let a : accept b ≡ refuse 8 = rw q at e in never (cc)
 
-pub compared-refuse : (z : ℤ) → refuse 8 ≡ compared z → inI64 z ≡ false
+pub compared-refuse : (z : ℤ) → refuse 8 ≡ compared z → in_i64 z ≡ false
 unfolding compared
-compared-refuse z e = by (inI64 z) refl
+compared-refuse z e = by (in_i64 z) refl
   where
-    by : (t : Bool) → inI64 z ≡ t → inI64 z ≡ false
+    by : (t : Bool) → in_i64 z ≡ t → in_i64 z ≡ false
     by true q = let a : refuse 8 ≡ accept z = rw q at e in never (cc)
     by false q = q

@@ -2,7 +2,7 @@
 -- what it is lent.
 use mathlib.Core.Path.{◌≡◌, refl, sym, ◌∙◌}
 use Rattle.definitions.proofs.Truths.{never}
-use Rattle.operators.specs.Said.{saidOperator, saidBound}
+use Rattle.operators.specs.Said.{said_operator, said_bound}
 use Rattle.operators.specs.declared.operator.OperatorRead.{OperatorRead}
 use Rattle.operators.specs.declared.operator.OperatorRead.TheVariants.{Operator, Missing}
 use Rattle.operators.specs.declared.bound.BoundRead.{BoundRead}
@@ -13,13 +13,13 @@ use Rattle.operators.proofs.bound.bound_of.Reads as bound_of
 
 -- ---- an answer is known by what it says
 
-pub said-operator : (r r' : OperatorRead) → saidOperator r ≡ saidOperator r' → r ≡ r'
+pub said-operator : (r r' : OperatorRead) → said_operator r ≡ said_operator r' → r ≡ r'
 said-operator (Operator p n) (Operator q m) e = cc
 said-operator (Operator p n) Missing e = never (cc)
 said-operator Missing (Operator q m) e = never (cc)
 said-operator Missing Missing e = refl
 
-pub said-bound : (r r' : BoundRead) → saidBound r ≡ saidBound r' → r ≡ r'
+pub said-bound : (r r' : BoundRead) → said_bound r ≡ said_bound r' → r ≡ r'
 said-bound (Bound z) (Bound y) e = cc
 said-bound (Bound z) Beyond e = never (cc)
 said-bound Beyond (Bound y) e = never (cc)

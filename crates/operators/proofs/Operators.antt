@@ -10,7 +10,7 @@ use Rattle.definitions.specs.Refusal.{fault}
 use Rattle.definitions.specs.Bytes.{is_at, less, equals, greater}
 use Rattle.definitions.specs.Reader.{none, got}
 use Rattle.definitions.specs.Text.{operator}
-use Rattle.definitions.specs.declared.OpbOperator.TheVariants.{Le, GE, LT, GT, EQ}
+use Rattle.definitions.specs.declared.OpbOperator.TheVariants.{LE, GE, LT, GT, EQ}
 
 -- ---- operator; t says whether `=` stands behind the first byte
 
@@ -20,7 +20,7 @@ operator-empty [] e = refl
 operator-empty (b ∷ s) e = absurd (omega arith)
 
 pub operator-less : (s : List ℕ) (t : Bool) → 0 < length s → get_or s 0 0 ≡ less → is_at equals (drop 1 s) ≡ t
-    → operator s ≡ cond t (got Le 2) (got LT 1)
+    → operator s ≡ cond t (got LE 2) (got LT 1)
 unfolding operator
 operator-less [] t h e f = absurd (omega arith)
 operator-less (b ∷ s) t h e f = rw (eq-eqb b less e, f)

@@ -9,11 +9,11 @@ use Rattle.operators.specs.declared.bound.BoundRead.{BoundRead}
 use Rattle.operators.specs.declared.bound.BoundRead.TheVariants.{Bound, Beyond}
 
 -- 6: "no operator after a sum"
-abbrev pub saidOperator : OperatorRead → Got OpbOperator
-saidOperator (Operator p n) = got p n
-saidOperator Missing = none (fault 6)
+abbrev pub said_operator : OperatorRead → Got OpbOperator
+said_operator (Operator p n) = got p n
+said_operator Missing = none (fault 6)
 
 -- 8: "a result beyond signed 64 bits"
-abbrev pub saidBound : BoundRead → Checked ℤ
-saidBound (Bound z) = accept z
-saidBound Beyond = refuse 8
+abbrev pub said_bound : BoundRead → Checked ℤ
+said_bound (Bound z) = accept z
+said_bound Beyond = refuse 8

@@ -1,9 +1,9 @@
 // What a comparison makes of a row: its kind, and its bound where that is in 64 bits (01, "The text"). Assumes nothing.
 ghost use Rattle.std.specs.Prelude.{◌≡◌};
-ghost use Rattle.definitions.specs.Table.{kindNumber};
-ghost use Rattle.definitions.specs.Text.{kind_of, boundOf};
+ghost use Rattle.definitions.specs.Table.{kind_number};
+ghost use Rattle.definitions.specs.Text.{kind_of, bound_of};
 ghost use Rattle.operators.specs.Bounds.{compared};
-ghost use Rattle.operators.specs.Said.{saidBound};
+ghost use Rattle.operators.specs.Said.{said_bound};
 
 use definitions::{AT_LEAST, AT_MOST, EQUAL, GREATEST, LEAST, OpbOperator};
 
@@ -15,7 +15,7 @@ pub enum BoundRead {
 }
 
 pub fn kind_of(operator: OpbOperator) -> u8
-    ensures { result ≡ kindNumber (kind_of operator) }
+    ensures { result ≡ kind_number (kind_of operator) }
 {
     match operator {
         OpbOperator::LE => AT_MOST,
@@ -28,7 +28,7 @@ pub fn kind_of(operator: OpbOperator) -> u8
 
 // "`> b` is at least b+1, `< b` is at most b-1."
 pub fn bound_of(operator: OpbOperator, number: i64) -> BoundRead
-    ensures { saidBound result ≡ compared (boundOf operator number) }
+    ensures { said_bound result ≡ compared (bound_of operator number) }
 {
     match operator {
         OpbOperator::LE => BoundRead::Bound(number),

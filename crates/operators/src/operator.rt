@@ -2,7 +2,7 @@
 ghost use Rattle.std.specs.Prelude.{◌≡◌, drop};
 ghost use Rattle.definitions.specs.Bytes.{equals, is_at};
 ghost use Rattle.definitions.specs.Text.{operator};
-ghost use Rattle.operators.specs.Said.{saidOperator};
+ghost use Rattle.operators.specs.Said.{said_operator};
 
 use definitions::OpbOperator;
 
@@ -24,7 +24,7 @@ fn equals_at(s: &[u8]) -> bool
 
 // "`<=`, `>=`, `<`, `>`, `=`, longest first"
 pub fn read_operator(s: &[u8]) -> OperatorRead
-    ensures { saidOperator result ≡ operator s.now }
+    ensures { said_operator result ≡ operator s.now }
 {
     if s.len() == 0 {
         return OperatorRead::Missing;

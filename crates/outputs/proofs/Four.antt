@@ -12,10 +12,10 @@ use lib.ListN.{length, take, drop, set, length-append}
 use lib.Seq.{set-set, sets, sets-eq}
 use Rattle.definitions.specs.Number.{decimal}
 use Rattle.definitions.proofs.Numbers.{decimal-big}
-use Rattle.lengths.specs.Places.{fourDigits, places_of}
+use Rattle.lengths.specs.Places.{four_digits, places_of}
 use Rattle.lengths.specs.declared.Places.{Places}
 use Rattle.lengths.proofs.DigitPlaces.{few-is}
-use Rattle.outputs.specs.Print.{fourBytes}
+use Rattle.outputs.specs.Print.{four_bytes}
 
 -- ---- the digits, found two at once
 
@@ -69,7 +69,7 @@ module _ (o : List ℕ) (at : ℕ) where
   abbrev pub stored : ℕ → ℕ → ℕ → ℕ → List ℕ
   stored h t u w = stores h t u (bit_and w 255) (bit_and (w / 256) 255) (bit_and (w / 65536) 255) (w / 16777216)
 
-  stored_is : (m : ℕ) → m < 10_000 → (w : ℕ) → w ≡ fourBytes m → (h t u : ℕ)
+  stored_is : (m : ℕ) → m < 10_000 → (w : ℕ) → w ≡ four_bytes m → (h t u : ℕ)
       → stored h t u w ≡ stores h t u (48 + m / 1000) (48 + m / 100 % 10) (48 + m / 10 % 10) (48 + m % 10)
   stored_is m l w e h t u =
       let r = bytes (48 + m / 1000) (48 + m / 100 % 10) (48 + m / 10 % 10) (48 + m % 10)
@@ -99,14 +99,14 @@ module _ (o : List ℕ) (at : ℕ) where
   sets-is : (ds : List ℕ) → at + length ds ≤ length o → sets o at ds ≡ take at o ++ (ds ++ drop (at + length ds) o)
   sets-is ds h = sets-eq ds o at h ∙ append_assoc (take at o) ds _
 
-  pub stored-four : (m : ℕ) → m < 10_000 → (w : ℕ) → w ≡ fourBytes m → at + 4 ≤ length o
-      → stored 1 2 3 w ≡ take at o ++ (fourDigits m ++ drop (at + 4) o)
-  stored-four m l w e h = stored_is m l w e 1 2 3 ∙ all _ _ _ _ ∙ sets-is (fourDigits m) h
+  pub stored-four : (m : ℕ) → m < 10_000 → (w : ℕ) → w ≡ four_bytes m → at + 4 ≤ length o
+      → stored 1 2 3 w ≡ take at o ++ (four_digits m ++ drop (at + 4) o)
+  stored-four m l w e h = stored_is m l w e 1 2 3 ∙ all _ _ _ _ ∙ sets-is (four_digits m) h
 
 -- ---- as many digits as m has
 
 module _ (m : ℕ) (l : m < 10_000) (p : Places) (q : p ≡ places_of m) where
-  pub stored-few : (o : List ℕ) (at w : ℕ) → w ≡ fourBytes m → at + length (decimal m) ≤ length o
+  pub stored-few : (o : List ℕ) (at w : ℕ) → w ≡ four_bytes m → at + length (decimal m) ≤ length o
       → stored o at p.hundreds p.tens p.ones w ≡ take at o ++ (decimal m ++ drop (at + length (decimal m)) o)
   stored-few o at w e h =
       stored_is o at m l w e _ _ _
@@ -117,7 +117,7 @@ module _ (m : ℕ) (l : m < 10_000) (p : Places) (q : p ≡ places_of m) where
 
 -- ---- more than four digits
 
-pub decimal-fours : (x : ℕ) → 10_000 ≤ x → decimal x ≡ decimal (x / 10_000) ++ fourDigits (x % 10_000)
+pub decimal-fours : (x : ℕ) → 10_000 ≤ x → decimal x ≡ decimal (x / 10_000) ++ four_digits (x % 10_000)
 decimal-fours x h =
     let e : x / 10 / 10 / 10 / 10 ≡ x / 10_000 = omega arith in
     let a : x / 10 / 10 / 10 % 10 ≡ x % 10_000 / 1000 = omega arith in

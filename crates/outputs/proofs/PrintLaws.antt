@@ -14,11 +14,11 @@ use lib.Signed.{lt_z}
 use lib.Seq.{length-take-le, take-append-le, take-take, drop_at, drop-length, take-length, take-suc-set, take-set-le, drop-set-lt}
 use lib.Seq.{paste, paste-zero, paste-suc}
 use Rattle.definitions.specs.Bytes.{minus}
-use Rattle.definitions.specs.Number.{decimal, integerText}
+use Rattle.definitions.specs.Number.{decimal, integer_text}
 use Rattle.definitions.specs.Output.{put_at, put_in}
 use Rattle.definitions.proofs.Numbers.{decimal-some}
-use Rattle.lengths.specs.Places.{fourDigits}
-use Rattle.outputs.specs.Print.{Prints, signedText}
+use Rattle.lengths.specs.Places.{four_digits}
+use Rattle.outputs.specs.Print.{Prints, signed_text}
 use Rattle.outputs.specs.declared.Put.TheVariants.{Done, Full}
 use Rattle.outputs.proofs.Four.{decimal-fours, decimal-length-fours}
 
@@ -85,11 +85,11 @@ module _ (o : List ℕ) (m at n : ℕ) (out : List ℕ) (x k : ℕ) (w : Writing
         (omega (arith, w.left, decimal-length-fours x h), omega (arith, w.left, w.most, w.room, w.long, decimal-length-fours x h))
 
     pub writing_more : (out' : List ℕ)
-        → out' ≡ take (at + (k - 4)) out ++ (fourDigits (x % 10_000) ++ drop (at + (k - 4) + 4) out) → length out' ≡ length out
+        → out' ≡ take (at + (k - 4)) out ++ (four_digits (x % 10_000) ++ drop (at + (k - 4) + 4) out) → length out' ≡ length out
         → Writing o m at n out' (x / 10_000) (k - 4)
     writing_more out' e g =
         let t = drop k (decimal m) in
-        let ds = fourDigits (x % 10_000) in
+        let ds = four_digits (x % 10_000) in
         let j : k - 4 ≡ length (decimal (x / 10_000)) = omega (arith, w.left, decimal-length-fours x h) in
         let s : decimal m ≡ decimal (x / 10_000) ++ (ds ++ t) = w.split ∙ rw (decimal-fours x h, append_assoc) in
         let u : drop (k - 4) (decimal m) ≡ ds ++ t = ap (drop (k - 4)) s ∙ drop_at (decimal (x / 10_000)) (ds ++ t) (k - 4) (sym j) in
@@ -130,14 +130,14 @@ over-sign o at n ds h =
     let e : at + 0 ≡ at = omega arith in
     rw (e, take-set-le at o at minus (omega arith), drop-set-lt (at + n) o at minus (omega arith))
 
-pub signed-counted : (b : Bool) (m k n : ℕ) → k ≡ cond b 1 0 → n ≡ length (decimal m) → n + k ≡ length (signedText b m)
+pub signed-counted : (b : Bool) (m k n : ℕ) → k ≡ cond b 1 0 → n ≡ length (decimal m) → n + k ≡ length (signed_text b m)
 signed-counted true m k n e c = rw e (add-one n ∙ ap suc c)
 signed-counted false m k n e c = omega arith
 
 pub signed-done : (b : Bool) (m at : ℕ) (o : List ℕ) (k n : ℕ) (out : List ℕ) → k ≡ cond b 1 0 → n ≡ length (decimal m)
     → at + (n + k) ≤ length o
     → out ≡ take (at + k) (set o at minus) ++ (decimal m ++ drop (at + k + n) (set o at minus))
-    → Prints (signedText b m) at o (Done (at + k + n)) out
+    → Prints (signed_text b m) at o (Done (at + k + n)) out
 signed-done true m at o k n out e c h q =
     done (minus ∷ decimal m) at o (suc n) (ap suc c) (at + k + n) out (omega arith) (omega arith)
     ((rw e at q) ∙ behind-sign o at n (decimal m) (omega arith))
@@ -146,7 +146,7 @@ signed-done false m at o k n out e c h q =
     ((rw e at q) ∙ over-sign o at n (decimal m) (omega (arith, decimal-some m)))
 
 -- what an integer's sign and size print
-pub integer-is : (z : ℤ) → signedText (lt_z z (pos 0)) (nat_abs z) ≡ integerText z
+pub integer-is : (z : ℤ) → signed_text (lt_z z (pos 0)) (nat_abs z) ≡ integer_text z
 integer-is (pos n) = rw (le-ltb n 0 (omega arith))
 integer-is (negsuc n) = refl
 

@@ -18,10 +18,10 @@ pub record Prints (text : List ℕ) (at : ℕ) (o : List ℕ) (r : Put) (o' : Li
   pub after : o' ≡ put_in text at o
 
 -- the digits of m behind a sign, if it is negative
-abbrev pub signedText : Bool → ℕ → List ℕ
-signedText true m = minus ∷ decimal m
-signedText false m = decimal m
+abbrev pub signed_text : Bool → ℕ → List ℕ
+signed_text true m = minus ∷ decimal m
+signed_text false m = decimal m
 
 -- the four digits of a number below 10,000 in one number, the first byte lowest
-abbrev pub fourBytes : ℕ → ℕ
-fourBytes m = 48 + m / 1000 + 256 * (48 + m / 100 % 10 + 256 * (48 + m / 10 % 10 + 256 * (48 + m % 10)))
+abbrev pub four_bytes : ℕ → ℕ
+four_bytes m = 48 + m / 1000 + 256 * (48 + m / 100 % 10 + 256 * (48 + m / 10 % 10 + 256 * (48 + m % 10)))

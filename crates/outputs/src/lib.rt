@@ -1,8 +1,8 @@
 // Text into a lent output: a number, a count or any bytes printed at a place. Assumes nothing.
 ghost use Rattle.std.specs.Prelude.{◌≡◌, ◌++◌, ◌+◌, ◌<◌, ◌≤◌, leb, length, take, drop};
-ghost use Rattle.definitions.specs.Number.{decimal, integerText};
-ghost use Rattle.lengths.specs.Places.{places_of, fourDigits};
-ghost use Rattle.outputs.specs.Print.{Prints, signedText, fourBytes};
+ghost use Rattle.definitions.specs.Number.{decimal, integer_text};
+ghost use Rattle.lengths.specs.Places.{places_of, four_digits};
+ghost use Rattle.outputs.specs.Print.{Prints, signed_text, four_bytes};
 
 use lengths::Places;
 
@@ -27,7 +27,7 @@ fn has_room(n: usize, at: usize, room: usize) -> bool
 // once.
 fn four_digits(m: u32) -> u32
     requires { m < 10_000 }
-    ensures { result ≡ fourBytes m }
+    ensures { result ≡ four_bytes m }
 {
     let high = m / 100;
     let low = m - 100 * high;
@@ -40,7 +40,7 @@ fn four_digits(m: u32) -> u32
 // The four digits of m, zeros in front included.
 fn put_four(m: u32, out: &mut [u8], at: usize)
     requires { (m < 10_000) × (at + 4 ≤ length out.old) }
-    ensures { out.new ≡ take at out.old ++ (fourDigits m ++ drop (at + 4) out.old) }
+    ensures { out.new ≡ take at out.old ++ (four_digits m ++ drop (at + 4) out.old) }
 {
     let d = four_digits(m);
     out[at] = (d & 0xff) as u8;
@@ -79,7 +79,7 @@ fn put_digits(m: u64, out: &mut [u8], at: usize, n: usize)
 
 // A `-` or none, and then the digits of m.
 fn print_long(negative: bool, m: u64, out: &mut [u8], at: usize) -> Put
-    ensures { Prints (signedText negative m) at out.old result out.new }
+    ensures { Prints (signed_text negative m) at out.old result out.new }
 {
     let n = lengths::count_length(m);
     let k: usize = if negative { 1 } else { 0 };
@@ -95,7 +95,7 @@ fn print_long(negative: bool, m: u64, out: &mut [u8], at: usize) -> Put
 // The same for the numbers that most files have, with no loop and no branch but for the room.
 fn print_few(negative: bool, m: u32, out: &mut [u8], at: usize) -> Put
     requires { m < 10_000 }
-    ensures { Prints (signedText negative m) at out.old result out.new }
+    ensures { Prints (signed_text negative m) at out.old result out.new }
 {
     let p = lengths::places_of(m);
     let n = p.ones + 1;
@@ -118,7 +118,7 @@ pub fn print_count(m: u64, out: &mut [u8], at: usize) -> Put
 }
 
 pub fn print_number(value: i64, out: &mut [u8], at: usize) -> Put
-    ensures { Prints (integerText value) at out.old result out.new }
+    ensures { Prints (integer_text value) at out.old result out.new }
 {
     let negative = value < 0;
     let m = numbers::magnitude(value);

@@ -2,12 +2,12 @@
 -- what it is lent.
 use mathlib.Core.Path.{◌≡◌, refl, sym, ap, ◌∙◌}
 use lib.IntN.{ℤ}
-use Rattle.definitions.specs.Refusal.{faultAt, faultOf}
+use Rattle.definitions.specs.Refusal.{fault_at, fault_of}
 use Rattle.definitions.specs.Row.{Term, term}
 use Rattle.definitions.proofs.Truths.{never}
 use Rattle.literals.specs.declared.Lit.{Lit}
 use Rattle.literals.proofs.OneAnswer.{same-lit}
-use Rattle.pieces.specs.Said.{saidTerm, saidNext}
+use Rattle.pieces.specs.Said.{said_term, said_next}
 use Rattle.pieces.specs.declared.term.TermRead.{TermRead}
 use Rattle.pieces.specs.declared.term.NextTerm.{NextTerm}
 use Rattle.pieces.specs.declared.term.TermRead.TheVariants as term'
@@ -20,18 +20,18 @@ use Rattle.pieces.proofs.term.next_term.Reads as next-term
 same-term : (w w' : ℤ) (l l' : Lit) → term w l.0 ≡ term w' l'.0 → (w ≡ w') × (l ≡ l')
 same-term w w' l l' e = (ap (λ (t : Term). t.weight) e, same-lit l l' (ap (λ (t : Term). t.code) e))
 
-pub said-term : (r r' : TermRead) → saidTerm r ≡ saidTerm r' → r ≡ r'
+pub said-term : (r r' : TermRead) → said_term r ≡ said_term r' → r ≡ r'
 said-term (term'.Term w l n) (term'.Term w' l' n') e = let p = same-term w w' l l' (cc) in cc (p.0, p.1)
 said-term (term'.Term w l n) (term'.Refused k) e = never (cc)
 said-term (term'.Refused k) (term'.Term w' l' n') e = never (cc)
 said-term (term'.Refused k) (term'.Refused k') e = cc
 
-pub said-next : (r r' : NextTerm) → saidNext r ≡ saidNext r' → r ≡ r'
+pub said-next : (r r' : NextTerm) → said_next r ≡ said_next r' → r ≡ r'
 said-next (next.Term w l n) (next.Term w' l' n') e = let p = same-term w w' l l' (cc) in cc (p.0, p.1)
 said-next (next.Term w l n) (next.Refused k) e = never (cc)
 said-next (next.Term w l n) next.Stop e = never (cc)
 said-next (next.Refused k) (next.Term w' l' n') e = never (cc)
-said-next (next.Refused k) (next.Refused k') e = let p : faultAt 0 k ≡ faultAt 0 k' = cc in ap (λ r. next.Refused (faultOf r)) p
+said-next (next.Refused k) (next.Refused k') e = let p : fault_at 0 k ≡ fault_at 0 k' = cc in ap (λ r. next.Refused (fault_of r)) p
 said-next (next.Refused k) next.Stop e = never (cc)
 said-next next.Stop (next.Term w' l' n') e = never (cc)
 said-next next.Stop (next.Refused k') e = never (cc)

@@ -1,8 +1,8 @@
 // Terms: "number, one or more blanks, optional `~` or `-` (negation), `x`, digits, blanks" (01, "The text"). Assumes
 // nothing.
 ghost use Rattle.std.specs.Prelude.{◌≡◌};
-ghost use Rattle.definitions.specs.Text.{afterWeight, weighted, termStep};
-ghost use Rattle.pieces.specs.Said.{saidTerm, saidNext};
+ghost use Rattle.definitions.specs.Text.{after_weight, weighted, term_step};
+ghost use Rattle.pieces.specs.Said.{said_term, said_next};
 
 use definitions::{Beginning, Fault, Options};
 use literal_read::LiteralRead;
@@ -22,7 +22,7 @@ pub enum TermRead {
 
 // What follows a weight: blanks, literal, blanks. 4: "no blank after a weight".
 fn read_weighted(s: &[u8], options: Options, weight: i64) -> TermRead
-    ensures { saidTerm result ≡ afterWeight options weight s.now }
+    ensures { said_term result ≡ after_weight options weight s.now }
 {
     let k = blanks::blanks_of(s);
     if k == 0 {
@@ -43,7 +43,7 @@ fn read_weighted(s: &[u8], options: Options, weight: i64) -> TermRead
 }
 
 pub fn read_term(s: &[u8], options: Options) -> TermRead
-    ensures { saidTerm result ≡ weighted options s.now }
+    ensures { said_term result ≡ weighted options s.now }
 {
     let NumberRead::Number(w, n) = numbers::read_number(s) else {
         return TermRead::Refused(Fault { number: 3 });
@@ -76,7 +76,7 @@ pub enum NextTerm {
 
 // "A digit or sign after a term begins another."
 pub fn next_term(s: &[u8], options: Options) -> NextTerm
-    ensures { saidNext result ≡ termStep options s.now }
+    ensures { said_next result ≡ term_step options s.now }
 {
     if s.len() == 0 {
         return NextTerm::Stop;

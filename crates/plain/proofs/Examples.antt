@@ -5,10 +5,10 @@ use mathlib.Core.List.{List, [], ◌∷◌, map}
 use Prim.Native.Nat.{ℕ}
 use Prim.Native.String.{String}
 use Rattle.definitions.specs.File.{first_at}
-use Rattle.definitions.specs.Number.{leading, valueOn}
+use Rattle.definitions.specs.Number.{leading, value_on}
 use Rattle.definitions.specs.Bytes.{bytes}
-use Rattle.plain_parts.specs.PartForms.{isPart, sign, letters, isLiteral}
-use Rattle.plain.specs.Plain.{Plain, plain, other, behind, termBytes, is_plain, plainAt}
+use Rattle.plain_parts.specs.PartForms.{is_part, sign, letters, is_literal}
+use Rattle.plain.specs.Plain.{Plain, plain, other, behind, term_bytes, is_plain, plain_at}
 
 pub record Example : Type 0 where
   pub text : String
@@ -36,6 +36,6 @@ examples =
     ∷ example "1 x1 2 x2 >= 1 ;" other
     ∷ []
 
-pub each-example : map (λ (e : Example). plainAt (first_at 1) (bytes e.text)) examples ≡ map (λ (e : Example). e.says) examples
-unfolding leading valueOn isPart sign letters isLiteral behind termBytes is_plain plainAt
+pub each-example : map (λ (e : Example). plain_at (first_at 1) (bytes e.text)) examples ≡ map (λ (e : Example). e.says) examples
+unfolding leading value_on is_part sign letters is_literal behind term_bytes is_plain plain_at
 each-example = refl

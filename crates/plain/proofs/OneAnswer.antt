@@ -2,16 +2,16 @@
 -- what it is lent.
 use mathlib.Core.Path.{◌≡◌, refl, sym, ◌∙◌}
 use Rattle.definitions.proofs.Truths.{never}
-use Rattle.plain.specs.Plain.{saidPlain}
+use Rattle.plain.specs.Plain.{said_plain}
 use Rattle.plain.specs.declared.PlainRead.{PlainRead}
 use Rattle.plain.specs.declared.PlainRead.TheVariants as read
 use Rattle.plain.proofs.plain_term.Reads as plain-term
 
-pub said_plain : (r r' : PlainRead) → saidPlain r ≡ saidPlain r' → r ≡ r'
-said_plain (read.Plain p n) (read.Plain q m) e = cc
-said_plain (read.Plain p n) read.Other e = never (cc)
-said_plain read.Other (read.Plain p n) e = never (cc)
-said_plain read.Other read.Other e = refl
+pub said_plain_lem : (r r' : PlainRead) → said_plain r ≡ said_plain r' → r ≡ r'
+said_plain_lem (read.Plain p n) (read.Plain q m) e = cc
+said_plain_lem (read.Plain p n) read.Other e = never (cc)
+said_plain_lem read.Other (read.Plain p n) e = never (cc)
+said_plain_lem read.Other read.Other e = refl
 
 pub plain-term-one : (κs : _) (a : _) (r r' : _) (s s' : _) → plain-term.Post κs a r s → plain-term.Post κs a r' s' → r ≡ r'
-plain-term-one κs a r r' s s' p q = said_plain r r' (p ∙ sym q)
+plain-term-one κs a r r' s s' p q = said_plain_lem r r' (p ∙ sym q)

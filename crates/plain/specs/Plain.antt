@@ -7,9 +7,9 @@ use Rattle.definitions.specs.Number.{value, signed}
 use Rattle.definitions.specs.Literal.{code_of}
 use Rattle.definitions.specs.Walk.{item}
 use Rattle.definitions.specs.Row.{Term, term}
-use Rattle.definitions.specs.Text.{termStep}
+use Rattle.definitions.specs.Text.{term_step}
 use Rattle.definitions.specs.declared.Options.{Options}
-use Rattle.plain_parts.specs.PartForms.{byte_at, digitsOf, bytes_of, sign, isWeight, letters, isLiteral}
+use Rattle.plain_parts.specs.PartForms.{byte_at, digits_of, bytes_of, sign, is_weight, letters, is_literal}
 use Rattle.plain.specs.declared.PlainTerm.{PlainTerm}
 use Rattle.plain.specs.declared.PlainRead.{PlainRead}
 use Rattle.plain.specs.declared.PlainRead.TheVariants as read
@@ -19,9 +19,9 @@ pub data Plain : Type 0 where
   plain : PlainTerm → ℕ → Plain
   other : Plain
 
-abbrev pub saidPlain : PlainRead → Plain
-saidPlain (read.Plain p n) = plain p n
-saidPlain read.Other = other
+abbrev pub said_plain : PlainRead → Plain
+said_plain (read.Plain p n) = plain p n
+said_plain read.Other = other
 
 -- ---- a term
 
@@ -30,31 +30,31 @@ unfoldable pub behind : List ℕ → List ℕ
 behind s = drop (bytes_of (sign s) s + 1) s
 
 -- weight and literal, a space behind each
-unfoldable pub termBytes : List ℕ → ℕ
-termBytes s = bytes_of (sign s) s + bytes_of (letters (behind s)) (behind s) + 2
+unfoldable pub term_bytes : List ℕ → ℕ
+term_bytes s = bytes_of (sign s) s + bytes_of (letters (behind s)) (behind s) + 2
 
-abbrev pub termOf : List ℕ → PlainTerm
-termOf s = record {
+abbrev pub term_of : List ℕ → PlainTerm
+term_of s = record {
   negative = eqb (byte_at s 0) minus;
-  size = value (digitsOf (sign s) s);
+  size = value (digits_of (sign s) s);
   negated = eqb (byte_at (behind s) 0) tilde;
-  number = value (digitsOf (letters (behind s)) (behind s));
+  number = value (digits_of (letters (behind s)) (behind s));
 }
 
 -- a blank is at most a space
 unfoldable pub is_plain : Options → List ℕ → Bool
 is_plain o s =
-    leb 17 (length s) && (leb o.first 1 && (isWeight s && (isLiteral (behind s)
-    && (ltb space (byte_at s (termBytes s)) && ltb 0 (termOf s).number))))
+    leb 17 (length s) && (leb o.first 1 && (is_weight s && (is_literal (behind s)
+    && (ltb space (byte_at s (term_bytes s)) && ltb 0 (term_of s).number))))
 
-unfoldable pub plainAt : Options → List ℕ → Plain
-plainAt o s = cond (is_plain o s) (plain (termOf s) (termBytes s)) other
+unfoldable pub plain_at : Options → List ℕ → Plain
+plain_at o s = cond (is_plain o s) (plain (term_of s) (term_bytes s)) other
 
 -- ---- what a plain term is to others
 
 -- its weight and its literal's code
-abbrev pub plainTerm : ℕ → PlainTerm → Term
-plainTerm first p = term (signed p.negative p.size) (code_of p.negated (p.number - first))
+abbrev pub plain_term : ℕ → PlainTerm → Term
+plain_term first p = term (signed p.negative p.size) (code_of p.negated (p.number - first))
 
 -- its numbers are within the columns'
 pub record PlainFits (first : ℕ) (p : PlainTerm) : Type 0 where
@@ -62,7 +62,7 @@ pub record PlainFits (first : ℕ) (p : PlainTerm) : Type 0 where
   pub least : first ≤ p.number
   pub most : p.number < 100_000_000
 
--- it is what `termStep` reads there
+-- it is what `term_step` reads there
 pub record PlainIs (o : Options) (s : List ℕ) (p : PlainTerm) (n : ℕ) : Type 0 where
-  pub step : termStep o s ≡ item (plainTerm o.first p) n
+  pub step : term_step o s ≡ item (plain_term o.first p) n
   pub fits : PlainFits o.first p

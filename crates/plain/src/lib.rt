@@ -3,7 +3,7 @@
 // and literal with their spaces. specs/Plain.antt says exactly which terms are plain; one of any other form is left to
 // others. Assumes nothing.
 ghost use Rattle.std.specs.Prelude.{◌≡◌};
-ghost use Rattle.plain.specs.Plain.{plainAt, saidPlain};
+ghost use Rattle.plain.specs.Plain.{plain_at, said_plain};
 
 use definitions::Options;
 use plain_parts::{PlainLiteral, PlainWeight};
@@ -29,7 +29,7 @@ pub enum PlainRead {
 // take 16 bytes at most. A file number above 0 is not below the first index 0 or 1; with another first index no term is
 // plain.
 pub fn plain_term(s: &[u8], options: Options) -> PlainRead
-    ensures { saidPlain result ≡ plainAt options s.now }
+    ensures { said_plain result ≡ plain_at options s.now }
 {
     if s.len() < 17 {
         return PlainRead::Other;

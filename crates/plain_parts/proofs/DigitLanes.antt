@@ -11,10 +11,10 @@ use lib.Bits.{bit_and, bit_xor, and_block, and_high, and_zero_r, xor_shr, xor_mo
 use lib.Dec.{leb, eqb, lit<}
 use lib.ListN.{take, replicate}
 use lib.Pow.{pow_pos, split}
-use Rattle.definitions.specs.Bytes.{isDigit}
-use Rattle.definitions.specs.Number.{value, valueOn}
+use Rattle.definitions.specs.Bytes.{is_digit}
+use Rattle.definitions.specs.Number.{value, value_on}
 use Rattle.definitions.proofs.Truths.{both}
-use Rattle.plain_parts.specs.Lanes.{lanes, laneValue, all_bytes, digitLanes, InLanes, DigitsAre}
+use Rattle.plain_parts.specs.Lanes.{lanes, lane_value, all_bytes, digit_lanes, InLanes, DigitsAre}
 use Rattle.plain_parts.proofs.LaneLaws.{lane-pow, lanes-take, lanes-mod}
 
 -- from 0 to 9
@@ -91,14 +91,14 @@ nines-fit (suc n) y h e =
 -- ---- the eight lanes of a word, as the code tests them
 
 -- without a highest bit, the second test tells
-pub tested : (y : ℕ) → bit_and y 0x8080_8080_8080_8080 ≡ 0 → eqb (bit_and (y + 0x7676_7676_7676_7676) 0x8080_8080_8080_8080) 0 ≡ digitLanes y
+pub tested : (y : ℕ) → bit_and y 0x8080_8080_8080_8080 ≡ 0 → eqb (bit_and (y + 0x7676_7676_7676_7676) 0x8080_8080_8080_8080) 0 ≡ digit_lanes y
 unfolding tops nines
 tested y e = digits-tested 8 y e
 
 -- a lane with its highest bit is no digit
-pub untested : (y : ℕ) → (bit_and y 0x8080_8080_8080_8080 ≡ 0 → ⊥) → false ≡ digitLanes y
+pub untested : (y : ℕ) → (bit_and y 0x8080_8080_8080_8080 ≡ 0 → ⊥) → false ≡ digit_lanes y
 unfolding tops
-untested y h = by (digitLanes y) (digits-no-tops 8 y)
+untested y h = by (digit_lanes y) (digits-no-tops 8 y)
   where
     by : (t : Bool) → (t ≡ true → bit_and y 0x8080_8080_8080_8080 ≡ 0) → false ≡ t
     by true f = absurd (h (f refl))
@@ -157,10 +157,10 @@ lanes-text (suc n) (suc k) y h e =
     ∙ lanes-text n k (y / 256) (omega arith) (subst (λ (x : ℕ). all_bytes small (lanes n x) ≡ true) q t.1))
 
 -- a byte is a digit exactly if it differs from `0` by no more than one
-digit-tested : (b : ℕ) → small (bit_xor b 48) ≡ isDigit b
+digit-tested : (b : ℕ) → small (bit_xor b 48) ≡ is_digit b
 digit-tested b = by (dec_le 48 b) (dec_le b 57)
   where
-    by : Dec (48 ≤ b) → Dec (b ≤ 57) → small (bit_xor b 48) ≡ isDigit b
+    by : Dec (48 ≤ b) → Dec (b ≤ 57) → small (bit_xor b 48) ≡ is_digit b
     by (yes l) (yes m) =
         let q : b / 16 ≡ 3 = omega arith in
         let a : bit_and b 48 ≡ 48 = and_high b 2 4 ∙ ap (λ (x : ℕ). x % 4 * 16) q in
@@ -169,7 +169,7 @@ digit-tested b = by (dec_le 48 b) (dec_le b 57)
         rw (le-leb 48 b l, lt-leb b 57 (omega arith)) (lt-leb (bit_xor b 48) 9 (omega (arith, xor_add_and b 48, and_high b 2 4)))
     by (no l) m = rw (lt-leb 48 b (omega arith)) (lt-leb (bit_xor b 48) 9 (omega (arith, xor_add_and b 48, and_high b 2 4)))
 
-lanes-tested : (n k y : ℕ) → n ≤ k → all_bytes small (lanes n (bit_xor y (zeros k))) ≡ all_bytes isDigit (lanes n y)
+lanes-tested : (n k y : ℕ) → n ≤ k → all_bytes small (lanes n (bit_xor y (zeros k))) ≡ all_bytes is_digit (lanes n y)
 unfolding lanes all_bytes
 lanes-tested zero k y h = refl
 lanes-tested (suc n) zero y h = absurd (omega arith)
@@ -184,7 +184,7 @@ zeros-digits zero ds = refl
 zeros-digits (suc m) ds = zeros-digits m ds
 
 zeros-value : (m : ℕ) (ds : List ℕ) → value (text (replicate m 0 ++ ds)) ≡ value (text ds)
-unfolding valueOn
+unfolding value_on
 zeros-value zero ds = refl
 zeros-value (suc m) ds = zeros-value m ds
 
@@ -203,14 +203,14 @@ shifted-lanes count x h =
 abbrev shifted : ℕ → ℕ → ℕ
 shifted word bits = bit_xor word 0x3030_3030_3030_3030 * 2 ^ (64 - bits) % 2 ^ 64
 
-low-tested : (count word : ℕ) → count ≤ 8 → digitLanes (shifted word (8 * count)) ≡ all_bytes isDigit (lanes count word)
+low-tested : (count word : ℕ) → count ≤ 8 → digit_lanes (shifted word (8 * count)) ≡ all_bytes is_digit (lanes count word)
 unfolding zeros
 low-tested count word h =
     let x = bit_xor word (zeros 8) in
     ap (all_bytes small) (shifted-lanes count x h) ∙ zeros-digits (8 - count) (lanes count x) ∙ lanes-tested count 8 word h
 
-low_value : (count word : ℕ) → count ≤ 8 → all_bytes isDigit (lanes count word) ≡ true
-    → laneValue (shifted word (8 * count)) ≡ value (lanes count word)
+low_value : (count word : ℕ) → count ≤ 8 → all_bytes is_digit (lanes count word) ≡ true
+    → lane_value (shifted word (8 * count)) ≡ value (lanes count word)
 unfolding zeros
 low_value count word h d =
     let x = bit_xor word (zeros 8) in
@@ -228,11 +228,11 @@ module _ (word bits : ℕ) (l : InLanes bits) where
       rw n (lanes-take l.count 8 word few)
 
   -- all lanes of the shifted word are digits exactly if its lowest bytes are
-  pub digits-test : digitLanes (shifted word bits) ≡ all_bytes isDigit (take (bits / 8) (lanes 8 word))
+  pub digits-test : digit_lanes (shifted word bits) ≡ all_bytes is_digit (take (bits / 8) (lanes 8 word))
   digits-test = rw (low-lanes, l.is) (low-tested l.count word few)
 
   -- and then these have the lanes' value
-  pub digits_are : digitLanes (shifted word bits) ≡ true → DigitsAre (take (bits / 8) (lanes 8 word)) (shifted word bits)
+  pub digits_are : digit_lanes (shifted word bits) ≡ true → DigitsAre (take (bits / 8) (lanes 8 word)) (shifted word bits)
   digits_are d =
       let t = sym digits-test ∙ d in
       record { digits = t; number = rw (low-lanes, l.is) (low_value l.count word few (rw low-lanes at t)) }

@@ -3,9 +3,9 @@ use mathlib.Core.Path.{◌≡◌, refl}
 use mathlib.Core.Bool.{true, false}
 use mathlib.Core.List.{List, [], ◌∷◌, map}
 use Prim.Native.String.{String}
-use Rattle.definitions.specs.Number.{leading, valueOn}
+use Rattle.definitions.specs.Number.{leading, value_on}
 use Rattle.definitions.specs.Bytes.{bytes}
-use Rattle.plain_parts.specs.PartForms.{Found, found, nothing, isPart, sign, weightAt, letters, isLiteral, literalAt}
+use Rattle.plain_parts.specs.PartForms.{Found, found, nothing, is_part, sign, weight_at, letters, is_literal, literal_at}
 
 pub record Example : Type 0 where
   pub text : String
@@ -39,10 +39,10 @@ literals =
     ∷ example "x1 >= 1" nothing
     ∷ []
 
-pub each-weight : map (λ (e : Example). weightAt (bytes e.text)) weights ≡ map (λ (e : Example). e.says) weights
-unfolding leading valueOn isPart sign weightAt
+pub each-weight : map (λ (e : Example). weight_at (bytes e.text)) weights ≡ map (λ (e : Example). e.says) weights
+unfolding leading value_on is_part sign weight_at
 each-weight = refl
 
-pub each-literal : map (λ (e : Example). literalAt (bytes e.text)) literals ≡ map (λ (e : Example). e.says) literals
-unfolding leading valueOn isPart letters isLiteral literalAt
+pub each-literal : map (λ (e : Example). literal_at (bytes e.text)) literals ≡ map (λ (e : Example). e.says) literals
+unfolding leading value_on is_part letters is_literal literal_at
 each-literal = refl

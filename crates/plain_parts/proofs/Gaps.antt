@@ -88,35 +88,35 @@ pub record AtLane (first gap : ℕ) : Type 0 where
   pub least : first ≤ place
   pub most : place ≤ 7
 
-laneBit : ℕ → ℕ → Bool
-laneBit first g = eqb (g % 8) 4 && leb first (g / 8)
+lane_bit : ℕ → ℕ → Bool
+lane_bit first g = eqb (g % 8) 4 && leb first (g / 8)
 
 same : Bool → Bool → Bool
 same a b = cond a b (not b)
 
 -- of the bits below n those are set that are the bit 4 of one of these lanes
-marksAre : ℕ → ℕ → ℕ → Bool
-marksAre marks first zero = true
-marksAre marks first (suc n) = same (eqb (marks / 2 ^ n % 2) 1) (laneBit first n) && marksAre marks first n
+marks_are : ℕ → ℕ → ℕ → Bool
+marks_are marks first zero = true
+marks_are marks first (suc n) = same (eqb (marks / 2 ^ n % 2) 1) (lane_bit first n) && marks_are marks first n
 
 same-is : (a b : Bool) → same a b ≡ true → a ≡ b
 unfolding same
 same-is true b e = sym e
 same-is false b e = sym (not-true b e)
 
-mark-is : (marks first n : ℕ) → marksAre marks first n ≡ true → (g : ℕ) → g < n → eqb (marks / 2 ^ g % 2) 1 ≡ laneBit first g
-unfolding marksAre
+mark-is : (marks first n : ℕ) → marks_are marks first n ≡ true → (g : ℕ) → g < n → eqb (marks / 2 ^ g % 2) 1 ≡ lane_bit first g
+unfolding marks_are
 mark-is marks first zero e g h = absurd (omega arith)
 mark-is marks first (suc n) e g h = by (mark-is marks first n parts.1) (dec_lt g n)
   where
-    parts : (same (eqb (marks / 2 ^ n % 2) 1) (laneBit first n) ≡ true) × (marksAre marks first n ≡ true)
-    parts = both (same (eqb (marks / 2 ^ n % 2) 1) (laneBit first n)) (marksAre marks first n) e
+    parts : (same (eqb (marks / 2 ^ n % 2) 1) (lane_bit first n) ≡ true) × (marks_are marks first n ≡ true)
+    parts = both (same (eqb (marks / 2 ^ n % 2) 1) (lane_bit first n)) (marks_are marks first n) e
 
-    by : ((g : ℕ) → g < n → eqb (marks / 2 ^ g % 2) 1 ≡ laneBit first g) → Dec (g < n) → eqb (marks / 2 ^ g % 2) 1 ≡ laneBit first g
+    by : ((g : ℕ) → g < n → eqb (marks / 2 ^ g % 2) 1 ≡ lane_bit first g) → Dec (g < n) → eqb (marks / 2 ^ g % 2) 1 ≡ lane_bit first g
     by rest (yes k) = rest g k
     by rest (no k) =
         let q : n ≡ g = omega arith in
-        subst (λ (x : ℕ). eqb (marks / 2 ^ x % 2) 1 ≡ laneBit first x) q (same-is (eqb (marks / 2 ^ n % 2) 1) (laneBit first n) parts.0)
+        subst (λ (x : ℕ). eqb (marks / 2 ^ x % 2) 1 ≡ lane_bit first x) q (same-is (eqb (marks / 2 ^ n % 2) 1) (lane_bit first n) parts.0)
 
 -- the marks stand in these lanes, and in all of them
 pub record Marks (marks first : ℕ) : Type 0 where
@@ -124,21 +124,21 @@ pub record Marks (marks first : ℕ) : Type 0 where
   pub each : (p : ℕ) → first ≤ p → p ≤ 7 → marks / 2 ^ (8 * p + 4) % 2 ≡ 1
 
 -- a gap is in one of them
-pub gap_at : {word marks first gap : ℕ} → Marks marks first → FirstGap word marks gap → gap < 64 → AtLane first gap
-gap_at m g h = m.inside _ h (g.there h).0
+pub gap_at_lem : {word marks first gap : ℕ} → Marks marks first → FirstGap word marks gap → gap < 64 → AtLane first gap
+gap_at_lem m g h = m.inside _ h (g.there h).0
 
-lane-bit : (first g : ℕ) → g < 64 → laneBit first g ≡ true → AtLane first g
-unfolding laneBit
+lane-bit : (first g : ℕ) → g < 64 → lane_bit first g ≡ true → AtLane first g
+unfolding lane_bit
 lane-bit first g h e =
     let p = both (eqb (g % 8) 4) (leb first (g / 8)) e in
     let f : g % 8 ≡ 4 = eqb-true (g % 8) 4 p.0 in
     record { place = g / 8; is = omega arith; least = leb-true first (g / 8) p.1; most = omega arith }
 
-bit-lane : (first p : ℕ) → first ≤ p → laneBit first (8 * p + 4) ≡ true
-unfolding laneBit
+bit-lane : (first p : ℕ) → first ≤ p → lane_bit first (8 * p + 4) ≡ true
+unfolding lane_bit
 bit-lane first p h = rw (eq-eqb ((8 * p + 4) % 8) 4 (omega arith)) (le-leb first ((8 * p + 4) / 8) (omega arith))
 
-marks-are : (marks first : ℕ) → marksAre marks first 64 ≡ true → Marks marks first
+marks-are : (marks first : ℕ) → marks_are marks first 64 ≡ true → Marks marks first
 marks-are marks first e = record {
   inside = λ g h m. lane-bit first g h (sym (mark-is marks first 64 e g h) ∙ eq-eqb (marks / 2 ^ g % 2) 1 m);
   each = λ p l h. eqb-true (marks / 2 ^ (8 * p + 4) % 2) 1 (mark-is marks first 64 e (8 * p + 4) (omega arith) ∙ bit-lane first p l);
@@ -146,9 +146,9 @@ marks-are marks first e = record {
 
 -- behind a weight, and behind a literal
 pub weight-marks : Marks 0x1010_1010_1010_1000 1
-unfolding marksAre laneBit same
+unfolding marks_are lane_bit same
 weight-marks = marks-are 0x1010_1010_1010_1000 1 refl
 
 pub literal-marks : Marks 0x1010_1010_1010_0000 2
-unfolding marksAre laneBit same
+unfolding marks_are lane_bit same
 literal-marks = marks-are 0x1010_1010_1010_0000 2 refl

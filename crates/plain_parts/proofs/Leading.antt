@@ -9,8 +9,8 @@ use native.Mathlib.Omega.{arith}
 use borrow.Author.Tests.{le-leb, leb-true}
 use lib.Dec.{leb}
 use lib.ListN.{length, take, get_or}
-use Rattle.definitions.specs.Bytes.{isDigit}
-use Rattle.definitions.specs.Number.{leading, valueOn}
+use Rattle.definitions.specs.Bytes.{is_digit}
+use Rattle.definitions.specs.Number.{leading, value_on}
 use Rattle.definitions.proofs.Truths.{both}
 use Rattle.definitions.proofs.Numbers.{leading-digit, leading_low, leading-high}
 use Rattle.plain_parts.specs.Lanes.{all_bytes}
@@ -48,26 +48,26 @@ leading-taken (b ∷ s) = by (leading-taken s) (led b s)
     by rest (digit l m e) = rw (e, rest)
     by rest (ended e) = rw e
 
-pub digit-is : (b : ℕ) → 48 ≤ b → b ≤ 57 → isDigit b ≡ true
+pub digit-is : (b : ℕ) → 48 ≤ b → b ≤ 57 → is_digit b ≡ true
 digit-is b l m = rw (le-leb 48 b l) (le-leb b 57 m)
 
-pub leading-digits : (s : List ℕ) → all_bytes isDigit (leading s) ≡ true
+pub leading-digits : (s : List ℕ) → all_bytes is_digit (leading s) ≡ true
 unfolding leading all_bytes
 leading-digits [] = refl
 leading-digits (b ∷ s) = by (leading-digits s) (led b s)
   where
-    by : all_bytes isDigit (leading s) ≡ true → Led b s → all_bytes isDigit (leading (b ∷ s)) ≡ true
+    by : all_bytes is_digit (leading s) ≡ true → Led b s → all_bytes is_digit (leading (b ∷ s)) ≡ true
     by rest (digit l m e) = rw (e, digit-is b l m) rest
     by rest (ended e) = rw e
 
 -- n digits after the value a are below (a + 1) times 10 to the n
-pub leading-small : (a : ℕ) (s : List ℕ) → valueOn a (leading s) < (a + 1) * 10 ^ length (leading s)
-unfolding leading valueOn
+pub leading-small : (a : ℕ) (s : List ℕ) → value_on a (leading s) < (a + 1) * 10 ^ length (leading s)
+unfolding leading value_on
 leading-small a [] = omega arith
 leading-small a (b ∷ s) = by (leading-small (a * 10 + (b - 48)) s) (led b s)
   where
-    by : valueOn (a * 10 + (b - 48)) (leading s) < (a * 10 + (b - 48) + 1) * 10 ^ length (leading s)
-        → Led b s → valueOn a (leading (b ∷ s)) < (a + 1) * 10 ^ length (leading (b ∷ s))
+    by : value_on (a * 10 + (b - 48)) (leading s) < (a * 10 + (b - 48) + 1) * 10 ^ length (leading s)
+        → Led b s → value_on a (leading (b ∷ s)) < (a + 1) * 10 ^ length (leading (b ∷ s))
     by rest (digit l m e) =
         let n : a * 10 + (b - 48) + 1 ≤ (a + 1) * 10 = omega arith in
         let k = length (leading s) in
@@ -82,12 +82,12 @@ no_digit b s e = by (led b s)
     by (digit l m q) = absurd (omega arith)
     by (ended q) = q
 
-pub leading-ended : (n : ℕ) (s : List ℕ) → n < length s → all_bytes isDigit (take n s) ≡ true → get_or s n 0 / 16 % 2 ≡ 0
+pub leading-ended : (n : ℕ) (s : List ℕ) → n < length s → all_bytes is_digit (take n s) ≡ true → get_or s n 0 / 16 % 2 ≡ 0
     → leading s ≡ take n s
 unfolding all_bytes
 leading-ended n [] h d e = absurd (omega arith)
 leading-ended zero (b ∷ s) h d e = no_digit b s e
 leading-ended (suc n) (b ∷ s) h d e =
-    let p = both (isDigit b) (all_bytes isDigit (take n s)) d in
+    let p = both (is_digit b) (all_bytes is_digit (take n s)) d in
     let q = both (leb 48 b) (leb b 57) p.0 in
     leading-digit b s (leb-true 48 b q.0) (leb-true b 57 q.1) ∙ rw (leading-ended n s (omega arith) p.1 e)

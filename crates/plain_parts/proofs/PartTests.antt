@@ -7,9 +7,9 @@ use Prim.Native.Nat.{ℕ, ◌-◌, ◌≤◌, ◌<◌}
 use native.Mathlib.Omega.{arith}
 use borrow.Author.Tests.{leb-true, ltb-true, eqb-true, eq-eqb, ne_eqb}
 use lib.Dec.{ltb, leb, eqb}
-use Rattle.definitions.specs.Bytes.{space, minus, letterX, tilde}
+use Rattle.definitions.specs.Bytes.{space, minus, letter_x, tilde}
 use Rattle.definitions.proofs.Truths.{both}
-use Rattle.plain_parts.specs.PartForms.{byte_at, bytes_of, isPart, sign, letters, isLiteral}
+use Rattle.plain_parts.specs.PartForms.{byte_at, bytes_of, is_part, sign, letters, is_literal}
 
 -- ---- the bytes before the digits
 
@@ -52,8 +52,8 @@ pub record Part (k : ℕ) (s : List ℕ) : Type 0 where
   pub short : bytes_of k s ≤ 7
   pub space : byte_at s (bytes_of k s) ≡ space
 
-pub part_says : (k : ℕ) (s : List ℕ) → isPart k s ≡ true → Part k s
-unfolding isPart
+pub part_says : (k : ℕ) (s : List ℕ) → is_part k s ≡ true → Part k s
+unfolding is_part
 part_says k s e =
     let n = bytes_of k s in
     let t = both (ltb k n) (leb n 7 && eqb (byte_at s n) space) e in
@@ -61,11 +61,11 @@ part_says k s e =
     record { some = ltb-true k n t.0; short = leb-true n 7 u.0; space = eqb-true (byte_at s n) space u.1 }
 
 pub record Literal (s : List ℕ) : Type 0 where
-  pub letter : byte_at s (letters s - 1) ≡ letterX
+  pub letter : byte_at s (letters s - 1) ≡ letter_x
   pub part : Part (letters s) s
 
-pub literal-says : (s : List ℕ) → isLiteral s ≡ true → Literal s
-unfolding isLiteral
+pub literal-says : (s : List ℕ) → is_literal s ≡ true → Literal s
+unfolding is_literal
 literal-says s e =
-    let t = both (eqb (byte_at s (letters s - 1)) letterX) (isPart (letters s) s) e in
-    record { letter = eqb-true (byte_at s (letters s - 1)) letterX t.0; part = part_says (letters s) s t.1 }
+    let t = both (eqb (byte_at s (letters s - 1)) letter_x) (is_part (letters s) s) e in
+    record { letter = eqb-true (byte_at s (letters s - 1)) letter_x t.0; part = part_says (letters s) s t.1 }

@@ -13,15 +13,15 @@ use lib.Dec.{eqb}
 use lib.ListN.{length, take, drop, length-drop}
 use lib.Pow.{shr-shr}
 use lib.Seq.{length-take-le, get_or-drop, drop-drop}
-use Rattle.definitions.specs.Bytes.{isDigit, space, minus, letterX, tilde}
+use Rattle.definitions.specs.Bytes.{is_digit, space, minus, letter_x, tilde}
 use Rattle.definitions.specs.Number.{leading, value}
 use Rattle.definitions.proofs.Truths.{one_truth}
 use Rattle.plain_parts.specs.Lanes.{lanes, all_bytes, FirstGap, DigitsAre, DigitsSay}
-use Rattle.plain_parts.specs.PartForms.{byte_at, digitsOf, bytes_of, isPart, sign, isWeight, letters, isLiteral}
+use Rattle.plain_parts.specs.PartForms.{byte_at, digits_of, bytes_of, is_part, sign, is_weight, letters, is_literal}
 use Rattle.plain_parts.specs.InWord.{Begins, PartIs, WeightSays, LiteralSays}
 use Rattle.plain_parts.specs.declared.word.PartRead.{PartRead}
 use Rattle.plain_parts.specs.declared.word.PartRead.TheVariants as part
-use Rattle.plain_parts.proofs.Gaps.{AtLane, Marks, gap_at, weight-marks, literal-marks}
+use Rattle.plain_parts.proofs.Gaps.{AtLane, Marks, gap_at_lem, weight-marks, literal-marks}
 use Rattle.plain_parts.proofs.Leading.{leading_at, leading-taken, leading-digits, leading-ended}
 use Rattle.plain_parts.proofs.PartTests.{sign-minus, sign-none, sign-within, letters-tilde, letters-none, letters-within}
 use Rattle.plain_parts.proofs.PartTests.{Part, part_says}
@@ -52,7 +52,7 @@ module _ (s : List ℕ) (word gap : ℕ) (b : Begins s word) where
   fronted m g = record {
     long = b.long;
     bytes = b.bytes;
-    at = gap_at m g;
+    at = gap_at_lem m g;
     lacks = λ p h e. lane-bit p h ∙ ap (λ (x : ℕ). word / 2 ^ x % 2) (sym e) ∙ (g.there (omega arith)).1;
     has = λ p f h e. lane-bit p h ∙ g.below (8 * p + 4) e (m.each p f h);
   }
@@ -85,23 +85,23 @@ module _ {s : List ℕ} {first word gap : ℕ} (f : Fronted s first word gap) (k
       by (yes h) = absurd (omega (arith, part.space, f.has n (omega (arith, part.some)) part.short h))
       by (no h) = let a = f.at (omega (arith, part.short)) in there a (omega arith) (dec_lt a.place n)
 
-  pub gap-far : 60 < gap → isPart k s ≡ false
-  gap-far h = refuted (isPart k s) (λ e. let p = part_says k s e in omega (arith, gap_is p))
+  pub gap-far : 60 < gap → is_part k s ≡ false
+  gap-far h = refuted (is_part k s) (λ e. let p = part_says k s e in omega (arith, gap_is p))
 
-  pub gap-near : gap < 8 * k + 8 → isPart k s ≡ false
-  gap-near h = refuted (isPart k s) (λ e. let p = part_says k s e in omega (arith, gap_is p))
+  pub gap-near : gap < 8 * k + 8 → is_part k s ≡ false
+  gap-near h = refuted (is_part k s) (λ e. let p = part_says k s e in omega (arith, gap_is p))
 
   -- the bytes before the gap, in the lanes of the word w
   module _ (w : ℕ) (behind : lanes (8 - k) w ≡ take (8 - k) (drop k s)) where
-    pub no_part : all_bytes isDigit (take ((gap - (8 * k + 4)) / 8) (lanes 8 w)) ≡ false → isPart k s ≡ false
-    no_part d = refuted (isPart k s) (λ e.
+    pub no_part : all_bytes is_digit (take ((gap - (8 * k + 4)) / 8) (lanes 8 w)) ≡ false → is_part k s ≡ false
+    no_part d = refuted (is_part k s) (λ e.
         let p = part_says k s e in
         let g = gap_is p in
-        let m = length (digitsOf k s) in
+        let m = length (digits_of k s) in
         let q : (gap - (8 * k + 4)) / 8 ≡ m = omega arith in
-        let t : take m (lanes 8 w) ≡ digitsOf k s =
+        let t : take m (lanes 8 w) ≡ digits_of k s =
         take-lanes m (8 - k) 8 w (drop k s) (omega arith) (omega arith) behind ∙ leading-taken (drop k s) in
-        one_truth (all_bytes isDigit (digitsOf k s)) (leading-digits (drop k s)) (rw (q, t) at d))
+        one_truth (all_bytes is_digit (digits_of k s)) (leading-digits (drop k s)) (rw (q, t) at d))
 
     pub part-is : (y : ℕ) → gap < 64 → 8 * k + 8 ≤ gap → DigitsAre (take ((gap - (8 * k + 4)) / 8) (lanes 8 w)) y → PartIs k s y (gap / 8)
     part-is y h g d =
@@ -117,7 +117,7 @@ module _ {s : List ℕ} {first word gap : ℕ} (f : Fronted s first word gap) (k
         let b : byte_at (drop k s) m ≡ byte_at s p = get_or-drop k s m 0 ∙ ap (byte_at s) c in
         let l : leading (drop k s) ≡ take m (drop k s) =
         leading-ended m (drop k s) i (rw (q, t) at d.digits) (rw b (f.lacks p u v)) in
-        let n : length (digitsOf k s) ≡ m = ap length l ∙ length-take-le m (drop k s) (omega arith) in
+        let n : length (digits_of k s) ≡ m = ap length l ∙ length-take-le m (drop k s) (omega arith) in
         record {
           number = d.number ∙ ap value (ap (λ (x : ℕ). take x (lanes 8 w)) q ∙ t ∙ sym l);
           bytes = omega arith;
@@ -147,20 +147,20 @@ module _ (s : List ℕ) (word : ℕ) (b : lanes 8 word ≡ take 8 s) where
 -- ---- weights
 
 -- no digit and no sign
-pub weight-above : (s : List ℕ) (word : ℕ) → lanes 8 word ≡ take 8 s → 57 < bit_and word 255 → isWeight s ≡ false
+pub weight-above : (s : List ℕ) (word : ℕ) → lanes 8 word ≡ take 8 s → 57 < bit_and word 255 → is_weight s ≡ false
 weight-above s word b h =
     let c = first_byte s word b in
-    rw (sign-none s (λ e. omega arith)) (refuted (isPart 0 s) (λ e. omega (arith, leading_at s 0 (omega (arith, part_says 0 s e)))))
+    rw (sign-none s (λ e. omega arith)) (refuted (is_part 0 s) (λ e. omega (arith, leading_at s 0 (omega (arith, part_says 0 s e)))))
 
 module _ {s : List ℕ} {word gap : ℕ} (f : Fronted s 1 word gap) where
-  pub weight-far : 60 < gap → isWeight s ≡ false
+  pub weight-far : 60 < gap → is_weight s ≡ false
   weight-far h = gap-far f (sign s) (sign-within s) (omega arith) h
 
   module _ (b : bit_and word 255 ≡ minus) where
     minus-sign : sign s ≡ 1
     minus-sign = sign-minus s (first_byte s word f.bytes ∙ b)
 
-    pub minus-near : gap < 16 → isWeight s ≡ false
+    pub minus-near : gap < 16 → is_weight s ≡ false
     minus-near h = rw minus-sign (gap-near f 1 (omega arith) (omega arith) h)
 
     pub minus-says : gap < 64 → 16 ≤ gap → (r : PartRead) → DigitsSay (word / 256) (gap - 12) true (gap / 8) r → WeightSays s r
@@ -188,36 +188,36 @@ module _ {s : List ℕ} {word gap : ℕ} (f : Fronted s 1 word gap) where
 
 -- ---- literals
 
-no-digits : (s : List ℕ) → isPart (letters s) s ≡ false → isLiteral s ≡ false
-unfolding isLiteral
-no-digits s e = rw e (by (eqb (byte_at s (letters s - 1)) letterX))
+no-digits : (s : List ℕ) → is_part (letters s) s ≡ false → is_literal s ≡ false
+unfolding is_literal
+no-digits s e = rw e (by (eqb (byte_at s (letters s - 1)) letter_x))
   where
     by : (t : Bool) → t && false ≡ false
     by true = refl
     by false = refl
 
-no-letter : (s : List ℕ) → (byte_at s (letters s - 1) ≡ letterX → ⊥) → isLiteral s ≡ false
-unfolding isLiteral
-no-letter s e = rw (ne_eqb (byte_at s (letters s - 1)) letterX e)
+no-letter : (s : List ℕ) → (byte_at s (letters s - 1) ≡ letter_x → ⊥) → is_literal s ≡ false
+unfolding is_literal
+no-letter s e = rw (ne_eqb (byte_at s (letters s - 1)) letter_x e)
 
 -- neither `x` nor `~x`
-pub literal-other : (s : List ℕ) (word : ℕ) → lanes 8 word ≡ take 8 s → (bit_and word 255 ≡ letterX → ⊥) → (bit_and word 65535 ≡ 30846 → ⊥)
-    → isLiteral s ≡ false
+pub literal-other : (s : List ℕ) (word : ℕ) → lanes 8 word ≡ take 8 s → (bit_and word 255 ≡ letter_x → ⊥) → (bit_and word 65535 ≡ 30846 → ⊥)
+    → is_literal s ≡ false
 literal-other s word b x t = by (eqb (byte_at s 0) tilde) refl
   where
-    by : (c : Bool) → eqb (byte_at s 0) tilde ≡ c → isLiteral s ≡ false
+    by : (c : Bool) → eqb (byte_at s 0) tilde ≡ c → is_literal s ≡ false
     by true q =
         let e : byte_at s 0 ≡ tilde = eqb-true (byte_at s 0) tilde q in
-        no-letter s (λ l. t (let k : byte_at s 1 ≡ letterX = rw (letters-tilde s e) at l in omega (arith, first-bytes s word b)))
+        no-letter s (λ l. t (let k : byte_at s 1 ≡ letter_x = rw (letters-tilde s e) at l in omega (arith, first-bytes s word b)))
     by false q =
         no-letter s (λ l. x (sym (first_byte s word b) ∙ rw (letters-none s (eqb-false (byte_at s 0) tilde q)) at l))
 
 module _ {s : List ℕ} {word gap : ℕ} (f : Fronted s 2 word gap) where
-  pub literal-far : 60 < gap → isLiteral s ≡ false
+  pub literal-far : 60 < gap → is_literal s ≡ false
   literal-far h = let l = letters-within s in no-digits s (gap-far f (letters s) l.1 (omega arith) h)
 
-  module _ (b : bit_and word 255 ≡ letterX) where
-    starts-x : byte_at s 0 ≡ letterX
+  module _ (b : bit_and word 255 ≡ letter_x) where
+    starts-x : byte_at s 0 ≡ letter_x
     starts-x = first_byte s word f.bytes ∙ b
 
     no-tilde : byte_at s 0 ≡ tilde → ⊥
@@ -238,7 +238,7 @@ module _ {s : List ℕ} {word gap : ℕ} (f : Fronted s 2 word gap) where
     }
 
   module _ (b : bit_and word 65535 ≡ 30846) where
-    starts-tilde : (byte_at s 0 ≡ tilde) × (byte_at s 1 ≡ letterX)
+    starts-tilde : (byte_at s 0 ≡ tilde) × (byte_at s 1 ≡ letter_x)
     starts-tilde =
         let p = head-lane 7 word s f.bytes in
         let q = first-bytes s word f.bytes in
@@ -247,7 +247,7 @@ module _ {s : List ℕ} {word gap : ℕ} (f : Fronted s 2 word gap) where
     tilde-letters : letters s ≡ 2
     tilde-letters = letters-tilde s starts-tilde.0
 
-    pub tilde-near : gap < 24 → isLiteral s ≡ false
+    pub tilde-near : gap < 24 → is_literal s ≡ false
     tilde-near h = no-digits s (rw tilde-letters (gap-near f 2 (omega arith) (omega arith) h))
 
     pub tilde-says : gap < 64 → 24 ≤ gap → (r : PartRead) → DigitsSay (word / 65536) (gap - 20) true (gap / 8) r → LiteralSays s r

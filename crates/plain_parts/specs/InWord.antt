@@ -1,10 +1,10 @@
 -- What is said of the parts of a plain term (specs/PartForms.antt) as they are found in a word, their digits in lanes.
 -- The byte behind is looked at later.
 use Rattle.std.specs.Prelude.{ℕ, ◌-◌, ◌≤◌, ◌<◌, ◌≡◌, Bool, false, List, eqb, length, take}
-use Rattle.definitions.specs.Bytes.{minus, letterX, tilde}
+use Rattle.definitions.specs.Bytes.{minus, letter_x, tilde}
 use Rattle.definitions.specs.Number.{value}
-use Rattle.plain_parts.specs.Lanes.{lanes, laneValue}
-use Rattle.plain_parts.specs.PartForms.{byte_at, digitsOf, bytes_of, sign, isWeight, letters, isLiteral}
+use Rattle.plain_parts.specs.Lanes.{lanes, lane_value}
+use Rattle.plain_parts.specs.PartForms.{byte_at, digits_of, bytes_of, sign, is_weight, letters, is_literal}
 use Rattle.plain_parts.specs.declared.word.PartRead.{PartRead}
 use Rattle.plain_parts.specs.declared.word.PartRead.TheVariants as part
 
@@ -15,7 +15,7 @@ pub record Begins (s : List ℕ) (word : ℕ) : Type 0 where
 
 -- a part of k bytes and digits: the digits in lanes, and all its bytes
 pub record PartIs (k : ℕ) (s : List ℕ) (digits taken : ℕ) : Type 0 where
-  pub number : laneValue digits ≡ value (digitsOf k s)
+  pub number : lane_value digits ≡ value (digits_of k s)
   pub bytes : taken ≡ bytes_of k s
   pub some : k < taken
   pub short : taken ≤ 7
@@ -25,7 +25,7 @@ pub record WeightIs (s : List ℕ) (negative : Bool) (digits taken : ℕ) : Type
   pub part : PartIs (sign s) s digits taken
 
 abbrev pub WeightSays : List ℕ → PartRead → Type 0
-WeightSays s part.Other = isWeight s ≡ false
+WeightSays s part.Other = is_weight s ≡ false
 WeightSays s (part.Lanes marked digits taken) = WeightIs s marked digits taken
 
 -- whichever text begins with the word
@@ -34,11 +34,11 @@ WeightIn word r = (s : List ℕ) → Begins s word → WeightSays s r
 
 pub record LiteralIs (s : List ℕ) (negated : Bool) (digits taken : ℕ) : Type 0 where
   pub front : negated ≡ eqb (byte_at s 0) tilde
-  pub letter : byte_at s (letters s - 1) ≡ letterX
+  pub letter : byte_at s (letters s - 1) ≡ letter_x
   pub part : PartIs (letters s) s digits taken
 
 abbrev pub LiteralSays : List ℕ → PartRead → Type 0
-LiteralSays s part.Other = isLiteral s ≡ false
+LiteralSays s part.Other = is_literal s ≡ false
 LiteralSays s (part.Lanes marked digits taken) = LiteralIs s marked digits taken
 
 abbrev pub LiteralIn : ℕ → PartRead → Type 0

@@ -1,7 +1,7 @@
 -- Eight bytes as one number, a lane of eight bits for each, the first byte lowest; digits in lanes; the first marked
 -- bit that it has not.
 use Rattle.std.specs.Prelude.{ℕ, zero, suc, ◌+◌, ◌*◌, ◌/◌, ◌%◌, ◌^◌, ◌≤◌, ◌<◌, ◌≡◌, Bool, true, false, ◌&&◌, List, [], ◌∷◌, map, leb, take}
-use Rattle.definitions.specs.Bytes.{isDigit}
+use Rattle.definitions.specs.Bytes.{is_digit}
 use Rattle.definitions.specs.Number.{value}
 use Rattle.plain_parts.specs.declared.word.PartRead.{PartRead}
 use Rattle.plain_parts.specs.declared.word.PartRead.TheVariants as part
@@ -17,16 +17,16 @@ pub record Loaded (s : List ℕ) (n x : ℕ) : Type 0 where
   pub bytes : lanes n x ≡ take n s
 
 -- the number whose eight digits stand in the lanes, as `value` reads them from text
-abbrev pub laneValue : ℕ → ℕ
-laneValue y = value (map (λ (d : ℕ). 48 + d) (lanes 8 y))
+abbrev pub lane_value : ℕ → ℕ
+lane_value y = value (map (λ (d : ℕ). 48 + d) (lanes 8 y))
 
 unfoldable pub all_bytes : (ℕ → Bool) → List ℕ → Bool
 all_bytes p [] = true
 all_bytes p (b ∷ s) = p b && all_bytes p s
 
 -- every lane is from 0 to 9
-abbrev pub digitLanes : ℕ → Bool
-digitLanes y = all_bytes (λ (d : ℕ). leb d 9) (lanes 8 y)
+abbrev pub digit_lanes : ℕ → Bool
+digit_lanes y = all_bytes (λ (d : ℕ). leb d 9) (lanes 8 y)
 
 -- so many bits are from one lane to seven
 pub record InLanes (bits : ℕ) : Type 0 where
@@ -37,8 +37,8 @@ pub record InLanes (bits : ℕ) : Type 0 where
 
 -- bytes that are digits, and their number
 pub record DigitsAre (bytes : List ℕ) (y : ℕ) : Type 0 where
-  pub digits : all_bytes isDigit bytes ≡ true
-  pub number : laneValue y ≡ value bytes
+  pub digits : all_bytes is_digit bytes ≡ true
+  pub number : lane_value y ≡ value bytes
 
 -- a part with these digits, and what else is to be said of it
 pub record DigitsIn (bytes : List ℕ) (marked marked' : Bool) (taken taken' y : ℕ) : Type 0 where
@@ -47,7 +47,7 @@ pub record DigitsIn (bytes : List ℕ) (marked marked' : Bool) (taken taken' y :
   pub are : DigitsAre bytes y
 
 abbrev pub DigitsSay : ℕ → ℕ → Bool → ℕ → PartRead → Type 0
-DigitsSay word bits marked taken part.Other = all_bytes isDigit (take (bits / 8) (lanes 8 word)) ≡ false
+DigitsSay word bits marked taken part.Other = all_bytes is_digit (take (bits / 8) (lanes 8 word)) ≡ false
 DigitsSay word bits marked taken (part.Lanes marked' y taken') = DigitsIn (take (bits / 8) (lanes 8 word)) marked marked' taken taken' y
 
 -- no bit, or one that is set in the marks and not in the word; and each that is set in the marks below it is set in the

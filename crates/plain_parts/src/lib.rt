@@ -5,7 +5,7 @@ mod parts;
 mod word;
 
 ghost use Rattle.std.specs.Prelude.{◌≡◌};
-ghost use Rattle.plain_parts.specs.PartForms.{weightAt, literalAt, saidWeight, saidLiteral};
+ghost use Rattle.plain_parts.specs.PartForms.{weight_at, literal_at, said_weight, said_literal};
 
 use crate::word::PartRead;
 
@@ -34,7 +34,7 @@ pub enum PlainLiteral {
 
 // The weight at the front of s: a `-` or none, digits, and a space behind them.
 pub fn plain_weight(s: &[u8]) -> PlainWeight
-    ensures { saidWeight result ≡ weightAt s.now }
+    ensures { said_weight result ≡ weight_at s.now }
 {
     if s.len() < 8 {
         return PlainWeight::Other;
@@ -59,7 +59,7 @@ pub fn plain_weight(s: &[u8]) -> PlainWeight
 
 // The literal at the front of s: `x` or `~x`, digits that are not all 0, and a space behind them.
 pub fn plain_literal(s: &[u8]) -> PlainLiteral
-    ensures { saidLiteral result ≡ literalAt s.now }
+    ensures { said_literal result ≡ literal_at s.now }
 {
     if s.len() < 8 {
         return PlainLiteral::Other;

@@ -1,7 +1,7 @@
 // Eight bytes at once. A word holds eight bytes, the first in its lowest lane of eight bits; digits in its lanes are
 // tested and made a number together, without a branch for each. Assumes nothing.
 ghost use Rattle.std.specs.Prelude.{◌≡◌, ◌≤◌, length, take};
-ghost use Rattle.plain_parts.specs.Lanes.{lanes, Loaded, laneValue, digitLanes, InLanes, FirstGap, DigitsSay};
+ghost use Rattle.plain_parts.specs.Lanes.{lanes, Loaded, lane_value, digit_lanes, InLanes, FirstGap, DigitsSay};
 
 // `0` in every lane
 const ZEROS: u64 = 0x3030_3030_3030_3030;
@@ -48,7 +48,7 @@ pub(crate) fn first_word(s: &[u8]) -> u64
 
 // The number whose digits stand in the lanes: pairs of digits, then fours, then all eight.
 pub(crate) fn lane_value(y: u64) -> u64
-    ensures { result ≡ laneValue y }
+    ensures { result ≡ lane_value y }
 {
     let pairs = (y & LOWER_BYTES) * 10 + ((y >> 8) & LOWER_BYTES);
     let fours = (pairs & LOWER_PAIRS) * 100 + ((pairs >> 16) & LOWER_PAIRS);
@@ -57,7 +57,7 @@ pub(crate) fn lane_value(y: u64) -> u64
 
 // Whether every lane is from 0 to 9. No sum of a lane goes beyond it once no lane has its highest bit.
 fn are_digits(y: u64) -> bool
-    ensures { result ≡ digitLanes y }
+    ensures { result ≡ digit_lanes y }
 {
     if y & TOPS != 0 {
         return false;

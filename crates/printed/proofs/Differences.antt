@@ -9,15 +9,15 @@ use lib.Signed.{lt_z}
 use mir.Syntax.{w64}
 use mir.Val.{SFits, to_z, of_z}
 use mir.Facts.{to_z-of_z, to_z_pos}
-use Rattle.definitions.specs.Limits.{least, greatest, weightLimit, inI64}
+use Rattle.definitions.specs.Limits.{least, greatest, weight_limit, in_i64}
 use Rattle.definitions.specs.Refusal.{Checked, refuse, accept}
 use Rattle.definitions.specs.Table.{and_then}
 use Rattle.definitions.specs.declared.Kind.{Kind}
-use Rattle.definitions.specs.Back.{isGoal}
+use Rattle.definitions.specs.Back.{is_goal}
 use Rattle.definitions.proofs.Whole.{one_side, up_pos, dn-pos, up-negsuc, dn-negsuc, up_neg, dn-neg, sum_is, diff_is, lt-is, ge-is, in-up}
 use Rattle.definitions.proofs.Whole.{in-dn, is-in, in-true, over-up, over-dn, same}
-use Rattle.printed.specs.Kinds.{isAtMost}
-use Rattle.printed.specs.Bounds.{within, boundBefore, boundAfter, fallenBound, printedBound}
+use Rattle.printed.specs.Kinds.{is_at_most}
+use Rattle.printed.specs.Bounds.{within, bound_before, bound_after, fallen_bound, printed_bound}
 
 -- ---- within 64 bits, and beyond
 
@@ -25,7 +25,7 @@ pub within-fits : (z : ℤ) → SFits w64 z → accept z ≡ within z
 unfolding within
 within-fits z f = rw (in-true z f)
 
-pub within-over : (z : ℤ) → inI64 z ≡ false → refuse 8 ≡ within z
+pub within-over : (z : ℤ) → in_i64 z ≡ false → refuse 8 ≡ within z
 unfolding within
 within-over z e = rw e
 
@@ -62,7 +62,7 @@ module _ (x y : ℤ) (f : SFits w64 x) (g : SFits w64 y) where
           dn-pos 9223372036854775807,
         ))
 
-    pub high-over : lt_z (greatest +ℤ y) x ≡ true → inI64 (x -ℤ y) ≡ false
+    pub high-over : lt_z (greatest +ℤ y) x ≡ true → in_i64 (x -ℤ y) ≡ false
     high-over s =
         over-up (x -ℤ y)
         (omega (arith, sum_is greatest y, lt-is (greatest +ℤ y) x s, diff_is x y, up_pos 9223372036854775807, dn-pos 9223372036854775807))
@@ -111,7 +111,7 @@ module _ (x y : ℤ) (f : SFits w64 x) (g : SFits w64 y) where
           dn-negsuc 9223372036854775807,
         ))
 
-    pub low-over : lt_z x (least +ℤ y) ≡ true → inI64 (x -ℤ y) ≡ false
+    pub low-over : lt_z x (least +ℤ y) ≡ true → in_i64 (x -ℤ y) ≡ false
     low-over s =
         over-dn (x -ℤ y)
         (omega (arith, sum_is least y, lt-is x (least +ℤ y) s, diff_is x y, up-negsuc 9223372036854775807, dn-negsuc 9223372036854775807))
@@ -132,14 +132,14 @@ module _ (x y : ℤ) (f : SFits w64 x) (g : SFits w64 y) where
 
 -- ---- the bound before and after the fall
 
-pub before-flipped : (k : Kind) (b : ℤ) (n : ℕ) → isAtMost k ≡ true → pos n -ℤ b ≡ boundBefore k b n
+pub before-flipped : (k : Kind) (b : ℤ) (n : ℕ) → is_at_most k ≡ true → pos n -ℤ b ≡ bound_before k b n
 before-flipped k b n e = rw e
 
-pub before-kept : (k : Kind) (b : ℤ) (n : ℕ) → isAtMost k ≡ false → b ≡ boundBefore k b n
+pub before-kept : (k : Kind) (b : ℤ) (n : ℕ) → is_at_most k ≡ false → b ≡ bound_before k b n
 before-kept k b n e = rw e
 
 -- a size, and its negative, as the code computes them
-module _ (n : ℕ) (h : n ≤ weightLimit) where
+module _ (n : ℕ) (h : n ≤ weight_limit) where
   pub size_is : to_z w64 n ≡ pos n
   size_is = let g : n < 2 ^ 63 = omega arith in to_z_pos w64 g
 
@@ -155,32 +155,32 @@ module _ (n : ℕ) (h : n ≤ weightLimit) where
   pub negative-size-is : to_z w64 (of_z w64 (pos 0 -ℤ to_z w64 n)) ≡ neg_ℤ (pos n)
   negative-size-is = to_z-of_z negative-size-fits ∙ negative-is
 
-pub after-grown : (k : Kind) (b : ℤ) (n : ℕ) → isGoal k ≡ true → b -ℤ neg_ℤ (pos n) ≡ boundAfter k b n
+pub after-grown : (k : Kind) (b : ℤ) (n : ℕ) → is_goal k ≡ true → b -ℤ neg_ℤ (pos n) ≡ bound_after k b n
 after-grown k b n e =
     same (b -ℤ neg_ℤ (pos n)) (b +ℤ pos n)
     (omega (arith, diff_is b (neg_ℤ (pos n)), sum_is b (pos n), up_neg (pos n), dn-neg (pos n), up_pos n, dn-pos n))
     ∙ rw e
 
-pub after-fallen : (k : Kind) (b : ℤ) (n : ℕ) → isGoal k ≡ false → b -ℤ pos n ≡ boundAfter k b n
+pub after-fallen : (k : Kind) (b : ℤ) (n : ℕ) → is_goal k ≡ false → b -ℤ pos n ≡ bound_after k b n
 after-fallen k b n e = rw e
 
 module _ (k : Kind) (b : ℤ) (fall : ℕ) where
-  pub fallen-over : weightLimit < fall → refuse 8 ≡ fallenBound k fall b
-  fallen-over h = rw (lt-leb fall weightLimit h)
+  pub fallen-over : weight_limit < fall → refuse 8 ≡ fallen_bound k fall b
+  fallen-over h = rw (lt-leb fall weight_limit h)
 
-  pub fallen-within : {z : ℤ} → fall ≤ weightLimit → z ≡ boundAfter k b fall → within z ≡ fallenBound k fall b
-  fallen-within h e = rw (le-leb fall weightLimit h, e)
+  pub fallen-within : {z : ℤ} → fall ≤ weight_limit → z ≡ bound_after k b fall → within z ≡ fallen_bound k fall b
+  fallen-within h e = rw (le-leb fall weight_limit h, e)
 
-pub fallen-is : (k : Kind) (fall : ℕ) → fall ≤ weightLimit → fallenBound k fall ≡ (λ z. within (boundAfter k z fall))
-fallen-is k fall h = ap {B = ℤ → Checked ℤ} (λ (t : Bool) (z : ℤ). cond t (within (boundAfter k z fall)) (refuse 8))
-    (le-leb fall weightLimit h)
+pub fallen-is : (k : Kind) (fall : ℕ) → fall ≤ weight_limit → fallen_bound k fall ≡ (λ z. within (bound_after k z fall))
+fallen-is k fall h = ap {B = ℤ → Checked ℤ} (λ (t : Bool) (z : ℤ). cond t (within (bound_after k z fall)) (refuse 8))
+    (le-leb fall weight_limit h)
 
 module _ (k : Kind) (b : ℤ) (total fall : ℕ) where
-  pub printed-over : weightLimit < total → refuse 8 ≡ printedBound k b total fall
-  unfolding printedBound
-  printed-over h = rw (lt-leb total weightLimit h)
+  pub printed-over : weight_limit < total → refuse 8 ≡ printed_bound k b total fall
+  unfolding printed_bound
+  printed-over h = rw (lt-leb total weight_limit h)
 
-  pub printed-then : (r : Checked ℤ) → total ≤ weightLimit → r ≡ within (boundBefore k b total)
-      → and_then r (fallenBound k fall) ≡ printedBound k b total fall
-  unfolding printedBound
-  printed-then r h e = rw (le-leb total weightLimit h, e)
+  pub printed-then : (r : Checked ℤ) → total ≤ weight_limit → r ≡ within (bound_before k b total)
+      → and_then r (fallen_bound k fall) ≡ printed_bound k b total fall
+  unfolding printed_bound
+  printed-then r h e = rw (le-leb total weight_limit h, e)

@@ -3,12 +3,12 @@ use mathlib.Core.Path.{◌≡◌, sym, ◌∙◌}
 use Rattle.definitions.proofs.Truths.{never}
 use Rattle.printed.specs.declared.bounds.Bound.{Bound}
 use Rattle.printed.specs.declared.bounds.Bound.TheVariants.{Is, Beyond}
-use Rattle.printed.specs.Bounds.{saidBound}
+use Rattle.printed.specs.Bounds.{said_bound}
 use Rattle.printed.proofs.kinds.sort_of.Reads as sort-of
 use Rattle.printed.proofs.kinds.style_of.Reads as style-of
 use Rattle.printed.proofs.bounds.printed_bound.Reads as printed-bound
 
-pub said-bound-one : (r r' : Bound) → saidBound r ≡ saidBound r' → r ≡ r'
+pub said-bound-one : (r r' : Bound) → said_bound r ≡ said_bound r' → r ≡ r'
 said-bound-one (Is x) (Is y) e = cc
 said-bound-one (Is x) Beyond e = never (cc)
 said-bound-one Beyond (Is y) e = never (cc)

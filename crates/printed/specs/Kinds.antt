@@ -5,39 +5,39 @@ use Rattle.definitions.specs.Table as table
 use Rattle.definitions.specs.declared.Kind.{Kind}
 use Rattle.definitions.specs.declared.Kind.TheVariants.{AtLeast as at_least, AtMost as at_most, Equal as equal, Objective as objective}
 use Rattle.definitions.specs.declared.Mode.{Mode}
-use Rattle.definitions.specs.Back.{isGoal}
+use Rattle.definitions.specs.Back.{is_goal}
 use Rattle.shown.specs.declared.terms.Style.{Style}
 use Rattle.printed.specs.declared.kinds.Shape.{Shape}
 use Rattle.printed.specs.declared.kinds.Sort as said
 use Rattle.printed.specs.declared.kinds.Sort.TheVariants.{Comment, Row, Refused}
 
-abbrev pub isAtMost : Kind → Bool
-isAtMost at_least = false
-isAtMost at_most = true
-isAtMost equal = false
-isAtMost objective = false
+abbrev pub is_at_most : Kind → Bool
+is_at_most at_least = false
+is_at_most at_most = true
+is_at_most equal = false
+is_at_most objective = false
 
-abbrev pub isEqual : Kind → Bool
-isEqual at_least = false
-isEqual at_most = false
-isEqual equal = true
-isEqual objective = false
+abbrev pub is_equal : Kind → Bool
+is_equal at_least = false
+is_equal at_most = false
+is_equal equal = true
+is_equal objective = false
 
-abbrev pub styleOf : Shape → Mode → Style
-styleOf s m = record { unit = s.unit; flip = isAtMost s.kind; plain = m.plain; apart = isGoal s.kind; first = m.first }
+abbrev pub style_of : Shape → Mode → Style
+style_of s m = record { unit = s.unit; flip = is_at_most s.kind; plain = m.plain; apart = is_goal s.kind; first = m.first }
 
-abbrev pub weightedSort : Kind → ℤ → said.Sort
-weightedSort k b = Row (record { kind = k; unit = false; bound = b })
+abbrev pub weighted_sort : Kind → ℤ → said.Sort
+weighted_sort k b = Row (record { kind = k; unit = false; bound = b })
 
 -- 11: "a negative cardinality bound"
-abbrev pub cardinalitySort : Kind → ℤ → said.Sort
-cardinalitySort k (pos n) = Row (record { kind = k; unit = true; bound = pos n })
-cardinalitySort k (negsuc n) = Refused
+abbrev pub cardinality_sort : Kind → ℤ → said.Sort
+cardinality_sort k (pos n) = Row (record { kind = k; unit = true; bound = pos n })
+cardinality_sort k (negsuc n) = Refused
 
 -- what a number in the column of kinds says of a row with the bound b
-abbrev pub sortSaid : table.Sort → ℤ → said.Sort
-sortSaid table.remark b = Comment
-sortSaid table.clause b = cardinalitySort at_least (pos 1)
-sortSaid table.unknown b = Refused
-sortSaid (table.weighted k) b = weightedSort k b
-sortSaid (table.cardinality k) b = cardinalitySort k b
+abbrev pub sort_said : table.Sort → ℤ → said.Sort
+sort_said table.remark b = Comment
+sort_said table.clause b = cardinality_sort at_least (pos 1)
+sort_said table.unknown b = Refused
+sort_said (table.weighted k) b = weighted_sort k b
+sort_said (table.cardinality k) b = cardinality_sort k b

@@ -6,16 +6,16 @@ use Rattle.definitions.specs.Table.{Table, table}
 use Rattle.definitions.specs.declared.Entry.{Entry}
 use Rattle.definitions.specs.declared.Kind.{Kind}
 use Rattle.printed.specs.declared.kinds.Shape.{Shape}
-use Rattle.printed.specs.Kinds.{isEqual}
-use Rattle.shown.specs.Terms.{ownTerms}
+use Rattle.printed.specs.Kinds.{is_equal}
+use Rattle.shown.specs.Terms.{own_terms}
 
 -- the row of a shape, from its part of the two columns
-abbrev pub rowOn : Shape → List ℤ → List ℕ → Row
-rowOn s ws cs = row_of s.kind s.bound (ownTerms s.unit ws cs)
+abbrev pub row_on : Shape → List ℤ → List ℕ → Row
+row_on s ws cs = row_of s.kind s.bound (own_terms s.unit ws cs)
 
 -- "An 'at most' row is written with ... `>=`"
-abbrev pub operatorText : Kind → List ℕ
-operatorText k = cond (isEqual k) (equals ∷ []) (greater ∷ equals ∷ [])
+abbrev pub operator_text : Kind → List ℕ
+operator_text k = cond (is_equal k) (equals ∷ []) (greater ∷ equals ∷ [])
 
 -- ---- where it stands
 
@@ -23,5 +23,5 @@ abbrev pub entry_of : ℕ → ℕ → ℕ → ℤ → Entry
 entry_of k f n b = record { kind = k; first = f; count = n; bound = b }
 
 -- a table of which only the terms are looked at
-abbrev pub onColumns : List ℤ → List ℕ → Table
-onColumns ws cs = table [] [] [] [] ws cs
+abbrev pub on_columns : List ℤ → List ℕ → Table
+on_columns ws cs = table [] [] [] [] ws cs

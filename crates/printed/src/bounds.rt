@@ -1,8 +1,8 @@
 // The bound that is printed: "bound = weight sum less bound" of an "at most" row, then the fall of no-negated mode,
 // each within 64 bits. Assumes nothing.
 ghost use Rattle.std.specs.Prelude.{◌≡◌, ◌≤◌, ◌-ℤ◌};
-ghost use Rattle.definitions.specs.Limits.{weightLimit};
-ghost use Rattle.printed.specs.Bounds.{within, saidBound, boundBefore, fallenBound, printedBound};
+ghost use Rattle.definitions.specs.Limits.{weight_limit};
+ghost use Rattle.printed.specs.Bounds.{within, said_bound, bound_before, fallen_bound, printed_bound};
 
 use crate::kinds::{is_at_most, is_objective};
 use definitions::{GREATEST, Kind, LEAST, WEIGHT_LIMIT};
@@ -17,7 +17,7 @@ pub enum Bound {
 
 // The limit is moved by y, which does not leave 64 bits, and not x.
 fn difference(x: i64, y: i64) -> Bound
-    ensures { saidBound result ≡ within (x -ℤ y) }
+    ensures { said_bound result ≡ within (x -ℤ y) }
 {
     if y < 0 {
         let high = GREATEST + y;
@@ -34,8 +34,8 @@ fn difference(x: i64, y: i64) -> Bound
 }
 
 fn flipped_bound(kind: Kind, bound: i64, total: u64) -> Bound
-    requires { total ≤ weightLimit }
-    ensures { saidBound result ≡ within (boundBefore kind bound total) }
+    requires { total ≤ weight_limit }
+    ensures { said_bound result ≡ within (bound_before kind bound total) }
 {
     if is_at_most(kind) {
         let t = total as i64;
@@ -46,7 +46,7 @@ fn flipped_bound(kind: Kind, bound: i64, total: u64) -> Bound
 
 // "the bound falls by w; an objective's offset grows by w"
 fn fallen_bound(kind: Kind, bound: i64, fall: u64) -> Bound
-    ensures { saidBound result ≡ fallenBound kind fall bound }
+    ensures { said_bound result ≡ fallen_bound kind fall bound }
 {
     if fall > WEIGHT_LIMIT {
         return Bound::Beyond;
@@ -61,7 +61,7 @@ fn fallen_bound(kind: Kind, bound: i64, fall: u64) -> Bound
 
 // "8 (weight sum, then the bound before and after the fall, or the offset)"
 pub fn printed_bound(kind: Kind, bound: i64, sums: Sums) -> Bound
-    ensures { saidBound result ≡ printedBound kind bound sums.total sums.fall }
+    ensures { said_bound result ≡ printed_bound kind bound sums.total sums.fall }
 {
     if sums.total > WEIGHT_LIMIT {
         return Bound::Beyond;

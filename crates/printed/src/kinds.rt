@@ -1,9 +1,9 @@
 // What the number in the column of kinds says (01, "The lines written"): a comment, a row of some kind, or nothing that
 // the writer knows. Assumes nothing.
 ghost use Rattle.std.specs.Prelude.{◌≡◌};
-ghost use Rattle.definitions.specs.Back.{isGoal};
-ghost use Rattle.definitions.specs.Table.{sortOf};
-ghost use Rattle.printed.specs.Kinds.{isAtMost, styleOf, weightedSort, cardinalitySort, sortSaid};
+ghost use Rattle.definitions.specs.Back.{is_goal};
+ghost use Rattle.definitions.specs.Table.{sort_of};
+ghost use Rattle.printed.specs.Kinds.{is_at_most, style_of, weighted_sort, cardinality_sort, sort_said};
 
 use definitions::{Kind, Mode};
 use shown::Style;
@@ -25,7 +25,7 @@ pub enum Sort {
 }
 
 pub(crate) fn is_at_most(kind: Kind) -> bool
-    ensures { result ≡ isAtMost kind }
+    ensures { result ≡ is_at_most kind }
 {
     match kind {
         Kind::AtLeast => false,
@@ -36,7 +36,7 @@ pub(crate) fn is_at_most(kind: Kind) -> bool
 }
 
 pub(crate) fn is_objective(kind: Kind) -> bool
-    ensures { result ≡ isGoal kind }
+    ensures { result ≡ is_goal kind }
 {
     match kind {
         Kind::AtLeast => false,
@@ -47,7 +47,7 @@ pub(crate) fn is_objective(kind: Kind) -> bool
 }
 
 pub fn style_of(shape: Shape, mode: Mode) -> Style
-    ensures { result ≡ styleOf shape mode }
+    ensures { result ≡ style_of shape mode }
 {
     let kind = shape.kind;
     let flip = is_at_most(kind);
@@ -62,7 +62,7 @@ pub fn style_of(shape: Shape, mode: Mode) -> Style
 }
 
 fn weighted(kind: Kind, bound: i64) -> Sort
-    ensures { result ≡ weightedSort kind bound }
+    ensures { result ≡ weighted_sort kind bound }
 {
     let shape = Shape {
         kind,
@@ -74,7 +74,7 @@ fn weighted(kind: Kind, bound: i64) -> Sort
 
 // "a negative cardinality bound": 11
 fn cardinality(kind: Kind, bound: i64) -> Sort
-    ensures { result ≡ cardinalitySort kind bound }
+    ensures { result ≡ cardinality_sort kind bound }
 {
     if bound < 0 {
         return Sort::Refused;
@@ -89,7 +89,7 @@ fn cardinality(kind: Kind, bound: i64) -> Sort
 
 // "a clause's bound is taken as 1, its bound column is not looked at either"
 pub fn sort_of(kind: u8, bound: i64) -> Sort
-    ensures { result ≡ sortSaid (sortOf kind) bound }
+    ensures { result ≡ sort_said (sort_of kind) bound }
 {
     match kind {
         0 => Sort::Comment,

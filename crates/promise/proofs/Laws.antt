@@ -10,11 +10,11 @@ use Rattle.definitions.specs.Lists.{over}
 use Rattle.definitions.specs.declared.Refusal.{Refusal}
 use Rattle.definitions.specs.Row.{Line}
 use Rattle.definitions.specs.Table.{Table, Outcome, refused, accepted}
-use Rattle.definitions.specs.Table.{totalsOf, counted, after}
+use Rattle.definitions.specs.Table.{totals_of, counted, after}
 use Rattle.definitions.specs.declared.Totals.{Totals}
 use Rattle.definitions.specs.File.{reading}
-use Rattle.definitions.specs.Write.{writing, outputAfter}
-use Rattle.definitions.specs.Back.{optionsOf}
+use Rattle.definitions.specs.Write.{writing, output_after}
+use Rattle.definitions.specs.Back.{options_of}
 use Rattle.definitions.specs.declared.Mode.{Mode}
 use Rattle.definitions.proofs.ThereAndBack.{there_and_back}
 use Rattle.reader.specs.Reads.{Reads}
@@ -22,8 +22,8 @@ use Rattle.definitions.specs.declared.Counted.{Counted}
 use Rattle.definitions.specs.declared.Length.{Length}
 use Rattle.definitions.proofs.Truths.{never}
 use Rattle.writer.specs.Writes.{Writes}
-use Rattle.foreseen.specs.Returning.{unwritten, unread, back, readBack, returning}
-use Rattle.promise.specs.Returns.{outputKept, tablesAfter, Returns}
+use Rattle.foreseen.specs.Returning.{unwritten, unread, back, read_back, returning}
+use Rattle.promise.specs.Returns.{output_kept, tables_after, Returns}
 use Rattle.foreseen.specs.declared.Returned.TheVariants.{NotWritten, NotRead, Back}
 
 -- ---- what is left behind
@@ -38,32 +38,32 @@ module _ (m : Mode) (t : Table) (text o : List ℕ) (new : Table) where
 
   -- a refusal leaves the output and the tables as they were
   record Unchanged : Type 0 where
-    output : o ≡ outputKept m new text_of o
-    tables : new ≡ tablesAfter m new text_of
+    output : o ≡ output_kept m new text_of o
+    tables : new ≡ tables_after m new text_of
 
   refused-writing : (r : Refusal) → unwritten r ≡ returning m new text_of → Unchanged
   refused-writing r e = by text_of refl e
     where
-      read : (s : List ℕ) (x : Outcome Totals) → unwritten r ≡ readBack s x → Unchanged
+      read : (s : List ℕ) (x : Outcome Totals) → unwritten r ≡ read_back s x → Unchanged
       read s (refused q) f = never (cc)
       read s (accepted q) f = never (cc)
 
       by : (x : Outcome (List ℕ)) → text_of ≡ x → unwritten r ≡ returning m new x → Unchanged
       by (refused q) p f = record { output = rw p; tables = rw p }
-      by (accepted s) p f = read s (counted (reading (optionsOf m) s new)) f
+      by (accepted s) p f = read s (counted (reading (options_of m) s new)) f
 
   refused-reading : (r : Refusal) → unread r ≡ returning m new text_of → Unchanged
   unfolding after
   refused-reading r e = by text_of refl e
     where
-      read : (s : List ℕ) → text_of ≡ accepted s → (x : Outcome (List Line)) → reading (optionsOf m) s new ≡ x
-          → unread r ≡ readBack s (counted x) → Unchanged
+      read : (s : List ℕ) → text_of ≡ accepted s → (x : Outcome (List Line)) → reading (options_of m) s new ≡ x
+          → unread r ≡ read_back s (counted x) → Unchanged
       read s p (refused q) f g = record { output = rw p (rw f); tables = rw p (rw f) }
       read s p (accepted ls) f g = never (cc)
 
       by : (x : Outcome (List ℕ)) → text_of ≡ x → unread r ≡ returning m new x → Unchanged
       by (refused q) p f = never (cc)
-      by (accepted s) p f = read s p (reading (optionsOf m) s new) refl f
+      by (accepted s) p f = read s p (reading (options_of m) s new) refl f
 
   pub not_written : (r : Refusal) → unwritten r ≡ returning m new text_of → Returns m t text o new (NotWritten r) o new
   not_written r e =
@@ -81,28 +81,28 @@ module _ (m : Mode) (t : Table) (text o : List ℕ) (new : Table) where
     is : text_of ≡ accepted bytes
     long : l ≡ length bytes
     lines : List Line
-    reads : reading (optionsOf m) bytes new ≡ accepted lines
+    reads : reading (options_of m) bytes new ≡ accepted lines
 
   good-back : (l : ℕ) (q : Totals) → back l q ≡ returning m new text_of → Good l
   good-back l q e = by text_of refl e
     where
-      read : (s : List ℕ) → text_of ≡ accepted s → (x : Outcome (List Line)) → reading (optionsOf m) s new ≡ x
-          → back l q ≡ readBack s (counted x) → Good l
+      read : (s : List ℕ) → text_of ≡ accepted s → (x : Outcome (List Line)) → reading (options_of m) s new ≡ x
+          → back l q ≡ read_back s (counted x) → Good l
       read s p (refused r) f g = never (cc)
       read s p (accepted ls) f g = record { bytes = s; is = p; long = cc; lines = ls; reads = f }
 
       by : (x : Outcome (List ℕ)) → text_of ≡ x → back l q ≡ returning m new x → Good l
       by (refused r) p f = never (cc)
-      by (accepted s) p f = read s p (reading (optionsOf m) s new) refl f
+      by (accepted s) p f = read s p (reading (options_of m) s new) refl f
 
-  module _ (l n k : ℕ) (e : back l (totalsOf n k) ≡ returning m new text_of) (w : Length) (o' : List ℕ)
+  module _ (l n k : ℕ) (e : back l (totals_of n k) ≡ returning m new text_of) (w : Length) (o' : List ℕ)
       (wrote : Writes m t text o w o') where
     good : Good l
-    good = good-back l (totalsOf n k) e
+    good = good-back l (totals_of n k) e
 
     output-is : o' ≡ over good.bytes o
-    unfolding outputAfter
-    output-is = wrote.after ∙ ap (λ (x : Outcome (List ℕ)). outputAfter x o) good.is
+    unfolding output_after
+    output-is = wrote.after ∙ ap (λ (x : Outcome (List ℕ)). output_after x o) good.is
 
     pub text-within : l ≤ length o'
     text-within = omega (arith, good.long, ap length output-is, length-append good.bytes (drop (length good.bytes) o))
@@ -113,9 +113,9 @@ module _ (m : Mode) (t : Table) (text o : List ℕ) (new : Table) where
     part-is-text : take l o' ≡ good.bytes
     part-is-text = taken l good.bytes o o' output-is good.long
 
-    pub came-back : (a : Counted) (new' : Table) → Reads (optionsOf m) (take l o') new a new' → Returns m t text o new (Back l n k) o' new'
+    pub came-back : (a : Counted) (new' : Table) → Reads (options_of m) (take l o') new a new' → Returns m t text o new (Back l n k) o' new'
     came-back a new' r =
-        let q : Reads (optionsOf m) good.bytes new a new' = rw part-is-text at r in
+        let q : Reads (options_of m) good.bytes new a new' = rw part-is-text at r in
         record {
           answer = e;
           output = output-is ∙ rw good.is (rw good.reads);

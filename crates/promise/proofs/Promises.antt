@@ -7,20 +7,20 @@ use mathlib.Core.Bool.{Bool, true}
 use mathlib.Core.List.{List}
 use lib.IntN.{ℤ}
 use lib.ListN.{length}
-use Rattle.definitions.specs.Limits.{fileLimit}
+use Rattle.definitions.specs.Limits.{file_limit}
 use Rattle.definitions.specs.Refusal.{refusal}
 use Rattle.definitions.specs.declared.Refusal.{Refusal}
 use Rattle.definitions.specs.Row.{Line}
-use Rattle.definitions.specs.Table.{Table, refused, accepted, entries, rowByRow}
-use Rattle.definitions.specs.Write.{Item, writtenIn, writing}
+use Rattle.definitions.specs.Table.{Table, refused, accepted, entries, row_by_row}
+use Rattle.definitions.specs.Write.{Item, written_in, writing}
 use Rattle.definitions.specs.File.{file}
-use Rattle.definitions.specs.Meaning.{Assignment, assigned, isKnown}
-use Rattle.definitions.specs.Values.{form_of, valuing, newLength, valuesAfter, knownAfter}
+use Rattle.definitions.specs.Meaning.{Assignment, assigned, is_known}
+use Rattle.definitions.specs.Values.{form_of, valuing, new_length, values_after, known_after}
 use Rattle.definitions.specs.declared.Form.TheVariants.{SignedNumbers, XTokens}
 use Rattle.definitions.specs.declared.Options.{Options}
 use Rattle.definitions.specs.declared.Mode.{Mode}
 use Rattle.definitions.proofs.KnownAnswers.{counted-known, length-known}
-use Rattle.document.specs.DocumentWritten.{forDocument, InOrder, WrittenDocument}
+use Rattle.document.specs.DocumentWritten.{for_document, InOrder, WrittenDocument}
 use Rattle.reader.specs.Reads.{Reads}
 use Rattle.reader.proofs.parse_opb_data.Reads as parse-opb-data
 use Rattle.writer.specs.Writes.{Writes}
@@ -52,7 +52,7 @@ pub writing-as-defined : (κs : _) (a : _) (r : _) (s : _) → write-opb-lines.P
     s.1.1.1.1.1.1.1.1.0.now
 writing-as-defined κs a r s p = p
 
--- Listing a table's first rows: answer and output afterwards are those of `listingTable`. A refused call changes no
+-- Listing a table's first rows: answer and output afterwards are those of `listing_table`. A refused call changes no
 -- byte.
 pub listing-as-defined : (κs : _) (a : _) (r : _) (s : _) → list-table.Post κs a r s
     → Lists a.1.1.1.1.1.1.1.0 a.1.1.1.1.1.1.0 (columns a) a.1.1.1.1.1.1.1.1.0.now r
@@ -66,21 +66,21 @@ normalising-as-defined κs a r s p = p
 
 -- Evaluating one row: sum and truth, or value, and the ones are those of `evaluating`.
 pub evaluating-as-defined : (κs : _) (a : _) (r : _) (s : _) → evaluate.Post κs a r s
-    → Rattle.verdicts.specs.Said.saidEvaluated r
+    → Rattle.verdicts.specs.Said.said_evaluated r
     ≡ Rattle.definitions.specs.Evaluate.evaluating (columns a) a.1.1.1.1.1.1.0 a.1.1.1.1.1.1.1.0.now
 evaluating-as-defined κs a r s p = p
 
--- The same where a second row says which variables are known: those of `evaluatingKnown`. A variable that is not known
+-- The same where a second row says which variables are known: those of `evaluating_known`. A variable that is not known
 -- is refused, never taken as false.
 pub evaluating-known-as-defined : (κs : _) (a : _) (r : _) (s : _) → evaluate-known.Post κs a r s
-    → Rattle.verdicts.specs.Said.saidEvaluated r
-    ≡ Rattle.definitions.specs.Evaluate.evaluatingKnown (columns a) a.1.1.1.1.1.1.0 a.1.1.1.1.1.1.1.0.now
+    → Rattle.verdicts.specs.Said.said_evaluated r
+    ≡ Rattle.definitions.specs.Evaluate.evaluating_known (columns a) a.1.1.1.1.1.1.0 a.1.1.1.1.1.1.1.0.now
     a.1.1.1.1.1.1.1.1.0.now
 evaluating-known-as-defined κs a r s p = p
 
--- A row that is judged has the sum and truth, or the value, that `evaluatingKnown` says; only the ones are left out.
+-- A row that is judged has the sum and truth, or the value, that `evaluating_known` says; only the ones are left out.
 pub judging-as-defined : (κs : _) (a : _) (r : _) (s : _) → judge.Post κs a r s
-    → Rattle.verdicts.specs.Said.saidEvaluated r
+    → Rattle.verdicts.specs.Said.said_evaluated r
     ≡ Rattle.definitions.specs.Evaluate.judging (columns a) a.1.1.1.1.1.1.0 a.1.1.1.1.1.1.1.0.now
     a.1.1.1.1.1.1.1.1.0.now
 judging-as-defined κs a r s p = p
@@ -101,7 +101,7 @@ writing-one r₁ r₂ p q = (length-known r₁ r₂ (p.answer ∙ sym q.answer),
 pub normalising-one : {t o t₁ t₂ : Table} (r₁ r₂ : _) → Normalises t o r₁ t₁ → Normalises t o r₂ t₂ → (r₁ ≡ r₂) × (t₁ ≡ t₂)
 normalising-one r₁ r₂ p q = (counted-known r₁ r₂ (p.answer ∙ sym q.answer), p.after ∙ sym q.after)
 
-pub evaluating-one : (r₁ r₂ : _) → Rattle.verdicts.specs.Said.saidEvaluated r₁ ≡ Rattle.verdicts.specs.Said.saidEvaluated r₂ → r₁ ≡ r₂
+pub evaluating-one : (r₁ r₂ : _) → Rattle.verdicts.specs.Said.said_evaluated r₁ ≡ Rattle.verdicts.specs.Said.said_evaluated r₂ → r₁ ≡ r₂
 evaluating-one = Rattle.verdicts.proofs.OneAnswer.said-evaluated
 
 pub valuing-one : {b : List ℕ} {n : ℕ} {ws ks ws₁ ks₁ ws₂ ks₂ : List ℕ} (r₁ r₂ : _) → ReadsValues b n ws ks r₁ ws₁ ks₁
@@ -127,16 +127,16 @@ there_and_back = Rattle.definitions.proofs.ThereAndBack.there_and_back
 
 -- The whole file: of an accepted file every byte belongs to a statement or is a blank between two.
 pub nothing-dropped : (o : Options) (s : List ℕ) (ls : List Line) → file o s ≡ accepted ls
-    → (length s ≤ fileLimit) × Rattle.definitions.proofs.WholeFile.WholeFile o s ls
+    → (length s ≤ file_limit) × Rattle.definitions.proofs.WholeFile.WholeFile o s ls
 nothing-dropped = Rattle.definitions.proofs.WholeFile.file-is-whole
 
 -- A refused file is too long, or is refused at a place in it, behind whole statements.
 pub refused-there : (o : Options) (s : List ℕ) (r : Refusal) → file o s ≡ refused r
-    → ((fileLimit < length s) × (r ≡ refusal 1 0)) ⊎ Rattle.definitions.proofs.WholeFile.BrokenFile o s r
+    → ((file_limit < length s) × (r ≡ refusal 1 0)) ⊎ Rattle.definitions.proofs.WholeFile.BrokenFile o s r
 refused-there = Rattle.definitions.proofs.WholeFile.file-is-broken
 
 -- Same answers: walked one statement per call, a file gives what it gives when it is read at once.
-pub same-answers : (o : Options) (s : List ℕ) → Rattle.definitions.specs.Stepping.stepsFrom o s 0 ≡ file o s
+pub same-answers : (o : Options) (s : List ℕ) → Rattle.definitions.specs.Stepping.steps_from o s 0 ≡ file o s
 same-answers = Rattle.definitions.proofs.SameAnswers.same-answers
 
 -- The OPB document's files are read, with the document's meaning.
@@ -148,28 +148,28 @@ document-read = Rattle.document.proofs.OpbDocument.document-read
 -- constraints) lies in the document's grammar, but for one space before the `;` of an objective, and means what was
 -- asked for.
 pub document-written : (t : Table) (text : List ℕ) (room : ℕ) (is : List Item) (s : List ℕ)
-    → rowByRow (writtenIn forDocument t text) 0 (entries t) ≡ accepted is → writing forDocument t text room ≡ accepted s
+    → row_by_row (written_in for_document t text) 0 (entries t) ≡ accepted is → writing for_document t text room ≡ accepted s
     → (o : InOrder is) → WrittenDocument o s
 document-written = Rattle.document.proofs.WrittenDocument.written-document
 
 -- A block of value lines that is accepted: what was known stays known, with its value.
-pub known-stays : (b : List ℕ) (n : ℕ) (ws ks cs : List ℕ) → valuing b n ws ks ≡ accepted cs → (v : ℕ) → isKnown ws ks v ≡ true
-    → (isKnown (valuesAfter (valuing b n ws ks) ws) (knownAfter (valuing b n ws ks) ks) v ≡ true)
-    × (assigned (valuesAfter (valuing b n ws ks) ws) v ≡ assigned ws v)
+pub known-stays : (b : List ℕ) (n : ℕ) (ws ks cs : List ℕ) → valuing b n ws ks ≡ accepted cs → (v : ℕ) → is_known ws ks v ≡ true
+    → (is_known (values_after (valuing b n ws ks) ws) (known_after (valuing b n ws ks) ks) v ≡ true)
+    × (assigned (values_after (valuing b n ws ks) ws) v ≡ assigned ws v)
 known-stays = Rattle.values.proofs.Kept.known-stays
 
 -- Signed numbers and `x` tokens may be read twice: the second time changes nothing more.
 pub read_again : (b : List ℕ) (n : ℕ) (ws ks cs : List ℕ) → valuing b n ws ks ≡ accepted cs → (m : ℕ)
-    → newLength n (valuing b n ws ks) ≡ accepted m → (form_of b ≡ SignedNumbers) ⊎ (form_of b ≡ XTokens)
-    → Rattle.values.proofs.Kept.Unchanged b m (valuesAfter (valuing b n ws ks) ws) (knownAfter (valuing b n ws ks) ks) cs
+    → new_length n (valuing b n ws ks) ≡ accepted m → (form_of b ≡ SignedNumbers) ⊎ (form_of b ≡ XTokens)
+    → Rattle.values.proofs.Kept.Unchanged b m (values_after (valuing b n ws ks) ws) (known_after (valuing b n ws ks) ks) cs
 read_again = Rattle.values.proofs.Kept.read_again
 
 -- A constraint that was evaluated over known variables has that sum, and holds or not, under every assignment that
 -- agrees on them: what stays unknown does not matter.
 pub known-suffices : (t : Table) (i : ℕ) (ws ks : List ℕ) (b : Assignment)
-    → ((v : ℕ) → isKnown (looked ws) (looked ks) v ≡ true → b v ≡ assigned (looked ws) v)
+    → ((v : ℕ) → is_known (looked ws) (looked ks) v ≡ true → b v ≡ assigned (looked ws) v)
     → (sum : ℤ) (h : Bool) (ones : ℕ)
-    → Rattle.definitions.specs.Evaluate.evaluatingKnown t i ws ks
+    → Rattle.definitions.specs.Evaluate.evaluating_known t i ws ks
     ≡ accepted (Rattle.definitions.specs.Evaluate.Evaluated.constraint sum h ones)
-    → Rattle.evaluator.proofs.Meant.ConstraintMeant t i (isKnown (looked ws) (looked ks)) b sum h
+    → Rattle.evaluator.proofs.Meant.ConstraintMeant t i (is_known (looked ws) (looked ks)) b sum h
 known-suffices = Rattle.evaluator.proofs.Agree.agree-constraint

@@ -5,28 +5,28 @@ use Rattle.definitions.specs.Row.{Line}
 use Rattle.definitions.specs.Table.{Table, Outcome, refused, accepted, after}
 use Rattle.definitions.specs.File.{reading}
 use Rattle.definitions.specs.Write.{writing}
-use Rattle.definitions.specs.Back.{optionsOf}
+use Rattle.definitions.specs.Back.{options_of}
 use Rattle.definitions.proofs.ThereAndBack.{ThereAndBack}
 use Rattle.definitions.specs.declared.Mode.{Mode}
 use Rattle.foreseen.specs.declared.Returned.{Returned}
-use Rattle.foreseen.specs.Returning.{saidReturned, returning}
+use Rattle.foreseen.specs.Returning.{said_returned, returning}
 
 -- what the output holds: the text if it came back, and else what it held
-abbrev pub keptBy : List ℕ → List ℕ → Outcome (List Line) → List ℕ
-keptBy s o (refused r) = o
-keptBy s o (accepted ls) = over s o
+abbrev pub kept_by : List ℕ → List ℕ → Outcome (List Line) → List ℕ
+kept_by s o (refused r) = o
+kept_by s o (accepted ls) = over s o
 
-abbrev pub outputKept : Mode → Table → Outcome (List ℕ) → List ℕ → List ℕ
-outputKept m new (refused r) o = o
-outputKept m new (accepted s) o = keptBy s o (reading (optionsOf m) s new)
+abbrev pub output_kept : Mode → Table → Outcome (List ℕ) → List ℕ → List ℕ
+output_kept m new (refused r) o = o
+output_kept m new (accepted s) o = kept_by s o (reading (options_of m) s new)
 
-abbrev pub tablesAfter : Mode → Table → Outcome (List ℕ) → Table
-tablesAfter m new (refused r) = new
-tablesAfter m new (accepted s) = after (reading (optionsOf m) s new) new
+abbrev pub tables_after : Mode → Table → Outcome (List ℕ) → Table
+tables_after m new (refused r) = new
+tables_after m new (accepted s) = after (reading (options_of m) s new) new
 
 pub record Returns (m : Mode) (t : Table) (text o : List ℕ) (new : Table) (r : Returned) (o' : List ℕ) (new' : Table) : Type 0 where
-  pub answer : saidReturned r ≡ returning m new (writing m t text (length o))
-  pub output : o' ≡ outputKept m new (writing m t text (length o)) o
-  pub tables : new' ≡ tablesAfter m new (writing m t text (length o))
+  pub answer : said_returned r ≡ returning m new (writing m t text (length o))
+  pub output : o' ≡ output_kept m new (writing m t text (length o)) o
+  pub tables : new' ≡ tables_after m new (writing m t text (length o))
   -- what was written comes back, one for one, and means what it meant
   pub kept : (s : List ℕ) → writing m t text (length o) ≡ accepted s → ThereAndBack m t text s

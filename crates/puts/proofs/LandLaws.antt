@@ -9,14 +9,14 @@ use native.Mathlib.Numerals.{add-one}
 use borrow.Author.Tests.{le-leb, lt-leb}
 use lib.ListN.{length, take, drop, set}
 use lib.Seq.{length-take-le, take-append-le, take-take, drop_at, set_split}
-use Rattle.definitions.specs.Output.{fitsAt, put_at}
+use Rattle.definitions.specs.Output.{fits_at, put_at}
 use Rattle.definitions.specs.Refusal.{refuse, accept}
 use Rattle.laws.proofs.Puts.{Puts, placed, placed-length, put-in-fits, put-in-full, put-done, put_full, put-at-full}
 use Rattle.definitions.proofs.Truths.{never}
 use Rattle.outputs.specs.Print.{put, Prints}
 use Rattle.outputs.specs.declared.Put.{Put}
 use Rattle.outputs.specs.declared.Put.TheVariants.{Done, Full}
-use Rattle.puts.specs.Lands.{end_of, placeAfter, Lands}
+use Rattle.puts.specs.Lands.{end_of, place_after, Lands}
 
 module _ (text : List ℕ) (at : ℕ) (o : List ℕ) where
   -- where there is room
@@ -33,9 +33,9 @@ module _ (text : List ℕ) (at : ℕ) (o : List ℕ) where
   stays h = record { place = rw (lt-leb (at + length text) (length o) h); after = sym (put-in-full text at o h) }
 
   -- what a print comes to
-  ends : (p : Put) → put p ≡ put_at text at o → end_of at p ≡ placeAfter text at o
+  ends : (p : Put) → put p ≡ put_at text at o → end_of at p ≡ place_after text at o
   unfolding put_at
-  ends p e = by p (fitsAt text at o) e
+  ends p e = by p (fits_at text at o) e
     where
       by : (p : Put) (b : Bool) → put p ≡ cond b (accept (at + length text)) (refuse 14) → end_of at p ≡ cond b (at + length text) at
       by (Done n) true q = cc

@@ -1,7 +1,7 @@
 // Text into a lent output that is known to have room for it, since its length was measured before: the place behind the
 // text is all that is answered. Where it does not fit nothing is changed, and the place stays. Assumes nothing.
 ghost use Rattle.std.specs.Prelude.{◌≡◌};
-ghost use Rattle.definitions.specs.Number.{decimal, integerText};
+ghost use Rattle.definitions.specs.Number.{decimal, integer_text};
 ghost use Rattle.definitions.specs.House.{field};
 ghost use Rattle.puts.specs.Lands.{end_of, Lands};
 
@@ -17,7 +17,7 @@ fn place_after(put: Put, at: usize) -> usize
 }
 
 pub fn put_number(z: i64, out: &mut [u8], at: usize) -> usize
-    ensures { Lands (integerText z) at out.old result out.new }
+    ensures { Lands (integer_text z) at out.old result out.new }
 {
     place_after(outputs::print_number(z, out, at), at)
 }

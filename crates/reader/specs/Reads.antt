@@ -1,6 +1,6 @@
 -- What reading a file into lent columns answers, and what it leaves in them.
 use Rattle.std.specs.Prelude.{ℕ, ◌≡◌, List}
-use Rattle.definitions.specs.Answers.{saidCounted}
+use Rattle.definitions.specs.Answers.{said_counted}
 use Rattle.definitions.specs.File.{reading}
 use Rattle.definitions.specs.Row.{Line}
 use Rattle.definitions.specs.Table.{Table, accepted, counted, after}
@@ -8,7 +8,7 @@ use Rattle.definitions.specs.declared.Counted.{Counted}
 use Rattle.definitions.specs.declared.Options.{Options}
 
 pub record Reads (o : Options) (s : List ℕ) (t₀ : Table) (r : Counted) (t : Table) : Type 0 where
-  pub answer : saidCounted r ≡ counted (reading o s t₀)
+  pub answer : said_counted r ≡ counted (reading o s t₀)
   pub after : t ≡ after (reading o s t₀) t₀
 
 -- a file that reads well, and room for it

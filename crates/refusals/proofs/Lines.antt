@@ -7,11 +7,11 @@ use lib.ListN.{length, length-append}
 use Rattle.definitions.specs.Refusal.{refusal}
 use Rattle.definitions.specs.Bytes.{lf}
 use Rattle.definitions.specs.Number.{decimal}
-use Rattle.definitions.specs.House.{field, refusedLine}
+use Rattle.definitions.specs.House.{field, refused_line}
 
 pub refused-length : (number place : ℕ)
-    → length (refusedLine (refusal number place)) ≡ length (decimal number) + length (decimal place) + 10
-unfolding refusedLine
+    → length (refused_line (refusal number place)) ≡ length (decimal number) + length (decimal place) + 10
+unfolding refused_line
 refused-length number place =
     let p = field (decimal place) ++ (lf ∷ []) in
     omega (arith, length-append (field (decimal number)) p, length-append (field (decimal place)) (lf ∷ []))

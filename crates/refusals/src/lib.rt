@@ -2,7 +2,7 @@
 // nothing.
 ghost use Rattle.std.specs.Prelude.{◌≡◌, ◌≤◌, length};
 ghost use Rattle.definitions.specs.Refusal.{refusal};
-ghost use Rattle.definitions.specs.House.{refusedLine};
+ghost use Rattle.definitions.specs.House.{refused_line};
 ghost use Rattle.laws.proofs.Puts.{Puts};
 ghost use Rattle.outputs.specs.Print.{Prints};
 
@@ -11,14 +11,14 @@ use puts::{put_field, put_text};
 
 // The length of the line of a refusal: `refused`, two tabs, number, place and an LF.
 pub fn refusal_length(number: u8, place: u64) -> usize
-    ensures { result ≡ length (refusedLine (refusal number place)) }
+    ensures { result ≡ length (refused_line (refusal number place)) }
 {
     10 + lengths::count_length(number as u64) + lengths::count_length(place)
 }
 
 fn put_refusal(number: u8, place: u64, out: &mut [u8]) -> usize
-    requires { length (refusedLine (refusal number place)) ≤ length out.old }
-    ensures { Puts (refusedLine (refusal number place)) 0 out.old result out.new }
+    requires { length (refused_line (refusal number place)) ≤ length out.old }
+    ensures { Puts (refused_line (refusal number place)) 0 out.old result out.new }
 {
     let a = put_text(b"refused", out, 0);
     let b = put_field(number as u64, out, a);
@@ -29,7 +29,7 @@ fn put_refusal(number: u8, place: u64, out: &mut [u8]) -> usize
 
 // "A refusal prints `refused|number|place` alone."
 pub fn list_refusal(number: u8, place: u64, out: &mut [u8]) -> Put
-    ensures { Prints (refusedLine (refusal number place)) 0 out.old result out.new }
+    ensures { Prints (refused_line (refusal number place)) 0 out.old result out.new }
 {
     if refusal_length(number, place) > out.len() {
         return Put::Full;

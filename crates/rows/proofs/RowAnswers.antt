@@ -8,49 +8,49 @@ use Prim.Native.Nat.{ℕ, ◌≤◌, ◌<◌}
 use native.Mathlib.Omega.{arith}
 use lib.Dec.{leb}
 use lib.IntN.{ℤ}
-use Rattle.definitions.specs.Limits.{weightLimit}
+use Rattle.definitions.specs.Limits.{weight_limit}
 use Rattle.definitions.specs.Refusal.{refusal, Checked, refuse, accept}
 use Rattle.definitions.specs.Row.{Row, row_of, Line, row, sizes}
-use Rattle.definitions.specs.Table.{Table, Outcome, rowRoom, refused, indexed, termsAt, inColumn, remark, sortOf, lineIn, and_then, table}
+use Rattle.definitions.specs.Table.{Table, Outcome, row_room, refused, indexed, terms_at, in_column, remark, sort_of, line_in, and_then, table}
 use Rattle.definitions.specs.declared.Kind.{Kind}
 use Rattle.definitions.specs.declared.Entry.{Entry}
 use Rattle.definitions.specs.Meaning.{Assignment, sum_of, assigned}
-use Rattle.definitions.specs.Evaluate.{Evaluated as Found, covered, found, foundIn, onPlace, evaluatingBy}
-use Rattle.columns.specs.Kinds.{readKind}
+use Rattle.definitions.specs.Evaluate.{Evaluated as Found, covered, found, found_in, on_place, evaluating_by}
+use Rattle.columns.specs.Kinds.{read_kind}
 use Rattle.columns.proofs.KindNumbers.{read-kind, unread-kind, line-by-terms}
 use Rattle.columns.proofs.EntryLaws.{entry_at, entries_from, entries-end}
-use Rattle.assigned.specs.WordsSay.{hasBy}
-use Rattle.summed.specs.Sums.{summedAt}
-use Rattle.verdicts.specs.Said.{saidEvaluated}
-use Rattle.verdicts.specs.Verdicts.{verdictOf}
+use Rattle.assigned.specs.WordsSay.{has_by}
+use Rattle.summed.specs.Sums.{summed_at}
+use Rattle.verdicts.specs.Said.{said_evaluated}
+use Rattle.verdicts.specs.Verdicts.{verdict_of}
 use Rattle.verdicts.specs.declared.Evaluated.{Evaluated}
 use Rattle.verdicts.specs.declared.Evaluated.TheVariants.{Refused}
 use Rattle.verdicts.proofs.VerdictLaws.{found-by-verdict}
-use Rattle.rows.specs.FoundRow.{found_at, evaluatingOf}
+use Rattle.rows.specs.FoundRow.{found_at, evaluating_of}
 
 -- a refusal, where the definition has it
 pub refused-is : (number place : ℕ) (r : Evaluated) (c : Checked Found) → r ≡ Refused (refusal number place) → c ≡ refuse number
-    → saidEvaluated r ≡ onPlace place c
+    → said_evaluated r ≡ on_place place c
 refused-is number place r c e q = rw (e, q)
 
 -- ---- an entry of a table with these two columns of terms
 
 -- what the number of a kind says, if it is no read row's
-sort-low : (n : ℕ) → n < 1 → sortOf n ≡ remark
-unfolding sortOf
-sort-low n h = let e : n ≡ 0 = omega arith in ap sortOf e
+sort-low : (n : ℕ) → n < 1 → sort_of n ≡ remark
+unfolding sort_of
+sort-low n h = let e : n ≡ 0 = omega arith in ap sort_of e
 
 -- a row is found by its sum and the verdict on it
 module _ (has : ℕ → Bool) (a : Assignment) (ones : ℕ) (r : Row) where
-  abbrev verdictOn : ℤ → Checked Found
-  verdictOn sum = verdictOf r.kind sum r.bound ones
+  abbrev verdict_on : ℤ → Checked Found
+  verdict_on sum = verdict_of r.kind sum r.bound ones
 
   row-verdict : (inside indexes small covers : Bool)
       → cond inside
-      (cond indexes (cond small (cond covers (verdictOn (sum_of a r.terms)) (refuse 12)) (refuse 8)) (refuse 11)) (refuse 11)
+      (cond indexes (cond small (cond covers (verdict_on (sum_of a r.terms)) (refuse 12)) (refuse 8)) (refuse 11)) (refuse 11)
       ≡ and_then
       (cond inside (cond indexes (cond small (cond covers (accept (sum_of a r.terms)) (refuse 12)) (refuse 8)) (refuse 11)) (refuse 11))
-      verdictOn
+      verdict_on
   row-verdict false indexes small covers = refl
   row-verdict true false small covers = refl
   row-verdict true true false covers = refl
@@ -58,10 +58,10 @@ module _ (has : ℕ → Bool) (a : Assignment) (ones : ℕ) (r : Row) where
   row-verdict true true true true = refl
 
   row-found : (inside indexes : Bool)
-      → and_then (cond (inside && indexes) (accept (row r)) (refuse 11)) (foundIn has a ones)
+      → and_then (cond (inside && indexes) (accept (row r)) (refuse 11)) (found_in has a ones)
       ≡ cond inside
       (cond indexes
-      (cond (leb (sizes r.terms) weightLimit) (cond (covered has r.terms) (verdictOn (sum_of a r.terms)) (refuse 12)) (refuse 8))
+      (cond (leb (sizes r.terms) weight_limit) (cond (covered has r.terms) (verdict_on (sum_of a r.terms)) (refuse 12)) (refuse 8))
       (refuse 11)) (refuse 11)
   unfolding found
   row-found false indexes = refl
@@ -74,46 +74,46 @@ module _ (e : Entry) (ws : List ℤ) (cs : List ℕ) (all : Bool) (words known :
 
   -- a kind that is no read row's
   pub entry-unread : (e.kind < 1) ⊎ (4 < e.kind) → found_at e ws cs all words known ones ≡ refuse 11
-  unfolding lineIn
+  unfolding line_in
   entry-unread (inl h) = rw (sort-low e.kind h)
   entry-unread (inr h) = rw (unread-kind e.kind columns e h)
 
   module _ (h : 1 ≤ e.kind) (g : e.kind ≤ 4) where
     by-sum : found_at e ws cs all words known ones
-        ≡ and_then (summedAt e.first e.count ws cs all words known)
-        (λ (sum : ℤ). verdictOf (readKind e.kind) sum e.bound ones)
-    unfolding lineIn
+        ≡ and_then (summed_at e.first e.count ws cs all words known)
+        (λ (sum : ℤ). verdict_of (read_kind e.kind) sum e.bound ones)
+    unfolding line_in
     by-sum =
-        let ts = termsAt columns e in
-        let r = row_of (readKind e.kind) e.bound ts in
-        let has = hasBy all words known in
+        let ts = terms_at columns e in
+        let r = row_of (read_kind e.kind) e.bound ts in
+        let has = has_by all words known in
         rw (read-kind e.kind (λ q. omega arith) g).sort
-        (row-found has (assigned words) ones r (inColumn columns e) (indexed ts)
-        ∙ row-verdict has (assigned words) ones r (inColumn columns e) (indexed ts) (leb (sizes ts) weightLimit) (covered has ts))
+        (row-found has (assigned words) ones r (in_column columns e) (indexed ts)
+        ∙ row-verdict has (assigned words) ones r (in_column columns e) (indexed ts) (leb (sizes ts) weight_limit) (covered has ts))
 
     -- terms with no sum, and with one
-    pub entry-refused : (number : ℕ) → refuse number ≡ summedAt e.first e.count ws cs all words known
+    pub entry-refused : (number : ℕ) → refuse number ≡ summed_at e.first e.count ws cs all words known
         → found_at e ws cs all words known ones ≡ refuse number
     entry-refused number q = rw (by-sum, ← q)
 
     pub entry-verdict : (sum : ℤ) (place : ℕ) (k : Kind) (o : Outcome Found)
-        → accept sum ≡ summedAt e.first e.count ws cs all words known
-        → k ≡ readKind e.kind
-        → o ≡ onPlace place (verdictOf k sum e.bound ones)
-        → o ≡ onPlace place (found_at e ws cs all words known ones)
+        → accept sum ≡ summed_at e.first e.count ws cs all words known
+        → k ≡ read_kind e.kind
+        → o ≡ on_place place (verdict_of k sum e.bound ones)
+        → o ≡ on_place place (found_at e ws cs all words known ones)
     entry-verdict sum place k o q t p = p ∙ rw (t, by-sum, ← q)
 
 -- ---- a row of the table
 
 module _ (t : Table) (i : ℕ) where
-  pub row-missing : (has : ℕ → Bool) (a : Assignment) (ones : ℕ) → rowRoom t ≤ i → evaluatingBy has a ones t i ≡ refused (refusal 11 i)
-  unfolding evaluatingBy
+  pub row-missing : (has : ℕ → Bool) (a : Assignment) (ones : ℕ) → row_room t ≤ i → evaluating_by has a ones t i ≡ refused (refusal 11 i)
+  unfolding evaluating_by
   row-missing has a ones h = rw (entries-end t i h)
 
-  pub row-there : (all : Bool) (words known : List ℕ) (ones : ℕ) → i < rowRoom t
-      → onPlace i (found_at (entry_at t i) t.weights t.literals all words known ones) ≡ evaluatingOf t i all words known ones
-  unfolding evaluatingBy
+  pub row-there : (all : Bool) (words known : List ℕ) (ones : ℕ) → i < row_room t
+      → on_place i (found_at (entry_at t i) t.weights t.literals all words known ones) ≡ evaluating_of t i all words known ones
+  unfolding evaluating_by
   row-there all words known ones h =
       rw (entries_from t i h)
-      (ap (λ (l : Checked Line). onPlace i (and_then l (foundIn (hasBy all words known) (assigned words) ones)))
+      (ap (λ (l : Checked Line). on_place i (and_then l (found_in (has_by all words known) (assigned words) ones)))
       (sym (line-by-terms t (entry_at t i))))

@@ -3,10 +3,10 @@
 // looked at. The number of ones is told. Assumes nothing.
 ghost use Rattle.std.specs.Prelude.{◌≡◌};
 ghost use Rattle.definitions.specs.Table.{table};
-ghost use Rattle.definitions.specs.Evaluate.{onPlace};
+ghost use Rattle.definitions.specs.Evaluate.{on_place};
 ghost use Rattle.assigned.specs.WordsSay.{looked};
-ghost use Rattle.verdicts.specs.Said.{saidEvaluated};
-ghost use Rattle.rows.specs.FoundRow.{found_at, evaluatingOf};
+ghost use Rattle.verdicts.specs.Said.{said_evaluated};
+ghost use Rattle.rows.specs.FoundRow.{found_at, evaluating_of};
 
 use definitions::{AT_LEAST, OBJECTIVE, Refusal};
 use summed::Summed;
@@ -36,7 +36,7 @@ fn evaluate_entry(
     all: bool,
     ones: u64,
 ) -> Evaluated
-    ensures { saidEvaluated result ≡ onPlace row (found_at (record { kind = kind; first = first; count = count; bound = bound }) weights.now literals.now all (looked words.now) (looked known.now) ones) }
+    ensures { said_evaluated result ≡ on_place row (found_at (record { kind = kind; first = first; count = count; bound = bound }) weights.now literals.now all (looked words.now) (looked known.now) ones) }
 {
     match kind {
         AT_LEAST..=OBJECTIVE => {}
@@ -63,7 +63,7 @@ pub fn evaluate_row(
     all: bool,
     ones: u64,
 ) -> Evaluated
-    ensures { saidEvaluated result ≡ evaluatingOf (table kinds.now firsts.now counts.now bounds.now weights.now literals.now) row all (looked words.now) (looked known.now) ones }
+    ensures { said_evaluated result ≡ evaluating_of (table kinds.now firsts.now counts.now bounds.now weights.now literals.now) row all (looked words.now) (looked known.now) ones }
 {
     if row >= columns::row_room(kinds, firsts, counts, bounds) {
         return refused(11, row);

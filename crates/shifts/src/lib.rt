@@ -1,14 +1,14 @@
 // What the bound of a row moves by when its negative weights become positive (01, "Normalising and evaluating"): "a
 // bound grows by -w, an objective's offset falls by -w". Assumes nothing.
 ghost use Rattle.std.specs.Prelude.{◌≡◌, min};
-ghost use Rattle.definitions.specs.Limits.{weightLimit};
-ghost use Rattle.shifts.specs.Shifts.{weightRises, shift_of};
+ghost use Rattle.definitions.specs.Limits.{weight_limit};
+ghost use Rattle.shifts.specs.Shifts.{weight_rises, shift_of};
 
 use definitions::{Kind, WEIGHT_LIMIT};
 
 // What the sum grows by, up to M. No row with more than M is normal, and a size beyond it stays in 64 bits.
 fn rise_of(weights: &[i64]) -> u64
-    ensures { result ≡ min (weightRises weights.now) weightLimit }
+    ensures { result ≡ min (weight_rises weights.now) weight_limit }
 {
     let mut rise: u64 = 0;
     let mut i: usize = 0;

@@ -6,16 +6,16 @@ use Rattle.shown.specs.declared.terms.Style.{Style}
 use Rattle.shown.specs.declared.sums.Sums.{Sums}
 use Rattle.shown.specs.Terms.{fallen}
 
-abbrev pub noSums : Sums
-noSums = record { total = 0; fall = 0 }
+abbrev pub no_sums : Sums
+no_sums = record { total = 0; fall = 0 }
 
-abbrev pub fallWith : Bool → ℕ → ℕ → ℕ
-fallWith true n m = capped (n + m)
-fallWith false n m = n
+abbrev pub fall_with : Bool → ℕ → ℕ → ℕ
+fall_with true n m = capped (n + m)
+fall_with false n m = n
 
-abbrev pub sumsWith : Sums → ℤ → Bool → Sums
-sumsWith a w falls = record { total = capped (a.total + nat_abs w); fall = fallWith falls a.fall (nat_abs w) }
+abbrev pub sums_with : Sums → ℤ → Bool → Sums
+sums_with a w falls = record { total = capped (a.total + nat_abs w); fall = fall_with falls a.fall (nat_abs w) }
 
 unfoldable pub summed : Style → Sums → List Term → Sums
 summed s a [] = a
-summed s a (t ∷ ts) = summed s (sumsWith a t.weight (fallen s t)) ts
+summed s a (t ∷ ts) = summed s (sums_with a t.weight (fallen s t)) ts

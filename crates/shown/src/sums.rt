@@ -1,6 +1,6 @@
 // The sums of a row's weights, up to the cap of term_checks. Assumes nothing.
 ghost use Rattle.std.specs.Prelude.{◌≡◌};
-ghost use Rattle.shown.specs.Sums.{sumsWith};
+ghost use Rattle.shown.specs.Sums.{sums_with};
 
 // Of all weights, and of those that the bound falls by.
 #[derive(Drop)]
@@ -11,7 +11,7 @@ pub struct Sums {
 
 // One weight more.
 pub fn with_weight(s: Sums, w: i64, falls: bool) -> Sums
-    ensures { result ≡ sumsWith s w falls }
+    ensures { result ≡ sums_with s w falls }
 {
     let total = term_checks::add_size(s.total, w);
     if falls {

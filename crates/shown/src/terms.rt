@@ -2,7 +2,7 @@
 ghost use Rattle.std.specs.Prelude.{◌≡◌};
 ghost use Rattle.definitions.specs.Literal.{negated};
 ghost use Rattle.definitions.specs.Row.{term};
-ghost use Rattle.shown.specs.Terms.{flippedCode, ownWeight, ownTerm, Shows};
+ghost use Rattle.shown.specs.Terms.{flipped_code, own_weight, own_term, Shows};
 
 use literals::{Lit, Var};
 
@@ -32,13 +32,13 @@ pub struct Shown {
 }
 
 fn own_weight(unit: bool, w: i64) -> i64
-    ensures { result ≡ ownWeight unit w }
+    ensures { result ≡ own_weight unit w }
 {
     if unit { 1 } else { w }
 }
 
 fn is_negated(flip: bool, l: Lit) -> bool
-    ensures { result ≡ negated (flippedCode flip l.0) }
+    ensures { result ≡ negated (flipped_code flip l.0) }
 {
     if flip {
         return l.negated().is_neg();
@@ -49,7 +49,7 @@ fn is_negated(flip: bool, l: Lit) -> bool
 // "In no-negated mode a negated literal of weight w is written -w on the plain variable." No row with a weight below 0
 // is written: such a term is shown by its weight and its variable alone.
 pub fn show_term(style: Style, weight: i64, code: u32) -> Shown
-    ensures { Shows style (ownTerm style.unit (term weight code)) result }
+    ensures { Shows style (own_term style.unit (term weight code)) result }
 {
     let own = own_weight(style.unit, weight);
     let l = Lit::of_code(code);

@@ -6,24 +6,24 @@ use native.Mathlib.Omega.{arith}
 use lib.ListN.{length}
 use Rattle.definitions.specs.declared.Refusal.{Refusal}
 use Rattle.definitions.specs.Walk.{Step, stop, bad, item}
-use Rattle.definitions.specs.Row.{Line, comment, row, termsOf}
-use Rattle.definitions.specs.Table.{kindNumber}
-use Rattle.definitions.specs.Text.{statement, inFile}
+use Rattle.definitions.specs.Row.{Line, comment, row, terms_of}
+use Rattle.definitions.specs.Table.{kind_number}
+use Rattle.definitions.specs.Text.{statement, in_file}
 use Rattle.definitions.specs.declared.Entry.{Entry}
 use Rattle.definitions.specs.declared.Options.{Options}
 use Rattle.definitions.proofs.Stops.{bad-is-behind}
 use Rattle.definitions.proofs.Truths.{never}
-use Rattle.columns.specs.Entries.{entry_of, entryAlone}
-use Rattle.columns.specs.Kinds.{termsOfKind}
+use Rattle.columns.specs.Entries.{entry_of, entry_alone}
+use Rattle.columns.specs.Kinds.{terms_of_kind}
 use Rattle.columns.proofs.EntryLaws.{kind-first, line-terms}
-use Rattle.statements.specs.Brief.{entry_at, briefStep}
+use Rattle.statements.specs.Brief.{entry_at, brief_step}
 
-pub brief-stop : (x : Step Line) → stop ≡ briefStep x → x ≡ stop
+pub brief-stop : (x : Step Line) → stop ≡ brief_step x → x ≡ stop
 brief-stop stop e = refl
 brief-stop (bad r) e = never (cc)
 brief-stop (item l n) e = never (cc)
 
-pub brief-bad : (x : Step Line) (r : Refusal) → bad r ≡ briefStep x → x ≡ bad r
+pub brief-bad : (x : Step Line) (r : Refusal) → bad r ≡ brief_step x → x ≡ bad r
 brief-bad stop r e = never (cc)
 brief-bad (bad q) r e = cc
 brief-bad (item l m) r e = never (cc)
@@ -32,33 +32,33 @@ brief-bad (item l m) r e = never (cc)
 pub record LineTold (x : Step Line) (y : Entry) (n : ℕ) : Type 0 where
   pub line : Line
   pub is : x ≡ item line n
-  pub told : y ≡ entryAlone line
+  pub told : y ≡ entry_alone line
 
-pub line-told : (x : Step Line) (y : Entry) (n : ℕ) → item y n ≡ briefStep x → LineTold x y n
+pub line-told : (x : Step Line) (y : Entry) (n : ℕ) → item y n ≡ brief_step x → LineTold x y n
 line-told stop y n e = never (cc)
 line-told (bad r) y n e = never (cc)
-line-told (item l j) y n e = let p : y ≡ entryAlone l = cc in let q : j ≡ n = cc in record { line = l; is = ap (item l) q; told = p }
+line-told (item l j) y n e = let p : y ≡ entry_alone l = cc in let q : j ≡ n = cc in record { line = l; is = ap (item l) q; told = p }
 
 -- with its terms counted
 pub record LineIs (x : Step Line) (terms n : ℕ) : Type 0 where
   pub line : Line
   pub is : x ≡ item line n
-  pub counted : terms ≡ length (termsOf line)
+  pub counted : terms ≡ length (terms_of line)
 
-pub brief-item : (x : Step Line) (y : Entry) (n : ℕ) → item y n ≡ briefStep x → LineIs x (termsOfKind y.kind y.count) n
+pub brief-item : (x : Step Line) (y : Entry) (n : ℕ) → item y n ≡ brief_step x → LineIs x (terms_of_kind y.kind y.count) n
 brief-item x y n e =
     let t = line-told x y n e in
-    record { line = t.line; is = t.is; counted = ap (λ (z : Entry). termsOfKind z.kind z.count) t.told ∙ line-terms t.line }
+    record { line = t.line; is = t.is; counted = ap (λ (z : Entry). terms_of_kind z.kind z.count) t.told ∙ line-terms t.line }
 
 -- a refusal's place is within the text
 pub bad-within : (o : Options) (s : List ℕ) (r : Refusal) → statement o s ≡ bad r → r.place ≤ length s
 bad-within o s r e = let h = bad-is-behind o s r e in omega (arith, h.0, h.1)
 
 -- a line has the same terms wherever it stands
-pub terms-in-file : (at : ℕ) (l : Line) → termsOf (inFile at l) ≡ termsOf l
+pub terms-in-file : (at : ℕ) (l : Line) → terms_of (in_file at l) ≡ terms_of l
 terms-in-file at (comment f n b) = refl
 terms-in-file at (row r) = refl
 
-pub entry-in-file : (at : ℕ) (l : Line) → entry_at at (entryAlone l) ≡ entryAlone (inFile at l)
+pub entry-in-file : (at : ℕ) (l : Line) → entry_at at (entry_alone l) ≡ entry_alone (in_file at l)
 entry-in-file at (comment f n b) = refl
-entry-in-file at (row r) = ap (λ (f : ℕ). entry_of (kindNumber r.kind) f (length r.terms) r.bound) (kind-first r.kind (at + 0) 0)
+entry-in-file at (row r) = ap (λ (f : ℕ). entry_of (kind_number r.kind) f (length r.terms) r.bound) (kind-first r.kind (at + 0) 0)

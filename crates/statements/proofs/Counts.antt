@@ -9,8 +9,8 @@ use Rattle.definitions.specs.Lists.{joined}
 use Rattle.definitions.specs.Refusal.{further}
 use Rattle.definitions.specs.Walk.{Walked, stop, bad}
 use Rattle.definitions.specs.Row.{Line}
-use Rattle.definitions.specs.Table.{refused, accepted, totalsOf, counted, allTerms}
-use Rattle.definitions.specs.Text.{statement, inFile}
+use Rattle.definitions.specs.Table.{refused, accepted, totals_of, counted, all_terms}
+use Rattle.definitions.specs.Text.{statement, in_file}
 use Rattle.definitions.specs.File.{lines_of, statements}
 use Rattle.definitions.specs.declared.Options.{Options}
 use Rattle.definitions.proofs.Walks.{At, at-start, at-stop, at-bad, at_item}
@@ -21,9 +21,9 @@ use Rattle.statements.proofs.Briefs.{LineIs, bad-within, terms-in-file}
 -- at an offset: the rows before it, how many they are and how many terms they have
 pub record Counting (o : Options) (s : List ℕ) (at rows terms : ℕ) : Type 0 where
   pub lines : List Line
-  pub stands : At (statement o) inFile s at lines
+  pub stands : At (statement o) in_file s at lines
   pub counted : rows ≡ length lines
-  pub termed : terms ≡ length (allTerms lines)
+  pub termed : terms ≡ length (all_terms lines)
   pub fewer-rows : rows ≤ at
   pub fewer-terms : terms ≤ at
 
@@ -32,7 +32,7 @@ unfolding joined
 counting-start o s =
     record {
       lines = [];
-      stands = at-start (statement o) inFile s;
+      stands = at-start (statement o) in_file s;
       counted = refl;
       termed = refl;
       fewer-rows = omega arith;
@@ -40,11 +40,11 @@ counting-start o s =
     }
 
 module _ (o : Options) (s : List ℕ) (at rows terms : ℕ) (w : Counting o s at rows terms) where
-  pub counting-stop : statement o (drop at s) ≡ stop → accepted (totalsOf rows terms) ≡ counted (lines_of (statements o s))
+  pub counting-stop : statement o (drop at s) ≡ stop → accepted (totals_of rows terms) ≡ counted (lines_of (statements o s))
   unfolding statements
   counting-stop e =
-      ap₂ (λ (n m : ℕ). accepted (totalsOf n m)) w.counted w.termed
-      ∙ ap (λ (x : Walked Line). counted (lines_of x)) (sym (at-stop (statement o) inFile (statement-moves o) s at w.lines w.stands e))
+      ap₂ (λ (n m : ℕ). accepted (totals_of n m)) w.counted w.termed
+      ∙ ap (λ (x : Walked Line). counted (lines_of x)) (sym (at-stop (statement o) in_file (statement-moves o) s at w.lines w.stands e))
 
   module _ (r : Refusal) (e : statement o (drop at s) ≡ bad r) where
     pub place-fits : at + r.place ≤ length s
@@ -54,7 +54,7 @@ module _ (o : Options) (s : List ℕ) (at rows terms : ℕ) (w : Counting o s at
     unfolding statements
     counting-bad =
         ap (λ (x : Walked Line). counted (lines_of x))
-        (sym (at-bad (statement o) inFile (statement-moves o) s at w.lines w.stands r e))
+        (sym (at-bad (statement o) in_file (statement-moves o) s at w.lines w.stands r e))
 
   module _ (c n : ℕ) (l : LineIs (statement o (drop at s)) c n) where
     pub line-has-byte : 0 < n
@@ -68,10 +68,10 @@ module _ (o : Options) (s : List ℕ) (at rows terms : ℕ) (w : Counting o s at
 
     pub counting-line : Counting o s (at + n) (rows + 1) (terms + c)
     counting-line =
-        let p = inFile at l.line in
+        let p = in_file at l.line in
         record {
           lines = w.lines ++ (p ∷ []);
-          stands = at_item (statement o) inFile (statement-moves o) s at w.lines w.stands l.line n l.is;
+          stands = at_item (statement o) in_file (statement-moves o) s at w.lines w.stands l.line n l.is;
           counted = omega (arith, length-append w.lines (p ∷ []), w.counted);
           termed = omega (arith, terms-snoc w.lines p, ap length (terms-in-file at l.line), w.termed, l.counted);
           fewer-rows = omega (arith, line-has-byte, w.fewer-rows);

@@ -2,14 +2,14 @@
 -- contract allows are equal.
 use mathlib.Core.Path.{◌≡◌, refl, sym, ◌∙◌}
 use Rattle.definitions.proofs.Truths.{never}
-use Rattle.statements.specs.Said.{saidStatement}
+use Rattle.statements.specs.Said.{said_statement}
 use Rattle.statements.specs.declared.row.StatementRead.{StatementRead}
 use Rattle.statements.specs.declared.row.StatementRead.TheVariants.{End, Refused, Line}
 use Rattle.statements.proofs.statement.walk_statement.Reads as walk-statement
 use Rattle.statements.proofs.statement.opb_data.Reads as opb-data
 
 -- an answer is known by what it says
-pub said-statement : (r r' : StatementRead) → saidStatement r ≡ saidStatement r' → r ≡ r'
+pub said-statement : (r r' : StatementRead) → said_statement r ≡ said_statement r' → r ≡ r'
 said-statement End End e = refl
 said-statement End (Refused i) e = never (cc)
 said-statement End (Line x m) e = never (cc)

@@ -4,7 +4,7 @@ use Rattle.definitions.specs.declared.Entry.{Entry}
 use Rattle.statements.specs.declared.row.StatementRead.{StatementRead}
 use Rattle.statements.specs.declared.row.StatementRead.TheVariants as statement
 
-abbrev pub saidStatement : StatementRead → Step Entry
-saidStatement statement.End = stop
-saidStatement (statement.Refused r) = bad r
-saidStatement (statement.Line x m) = item x m
+abbrev pub said_statement : StatementRead → Step Entry
+said_statement statement.End = stop
+said_statement (statement.Refused r) = bad r
+said_statement (statement.Line x m) = item x m

@@ -6,18 +6,18 @@ use Rattle.definitions.specs.Row.{Term, Row}
 use Rattle.definitions.specs.Text.{statement}
 use Rattle.definitions.specs.declared.Options.{Options}
 use Rattle.sums.specs.Walked.{TermsPut}
-use Rattle.statements.specs.Brief.{briefRow, briefStep}
-use Rattle.statements.specs.Met.{statementMet}
-use Rattle.statements.specs.Said.{saidStatement}
-use Rattle.closings.specs.Closed.{saidRow}
+use Rattle.statements.specs.Brief.{brief_row, brief_step}
+use Rattle.statements.specs.Met.{statement_met}
+use Rattle.statements.specs.Said.{said_statement}
+use Rattle.closings.specs.Closed.{said_row}
 use Rattle.closings.specs.declared.RowRead.{RowRead}
 use Rattle.statements.specs.declared.row.StatementRead.{StatementRead}
 
 pub record RowWalked (g : Got Row) (ts : List Term) (w₀ : List ℤ) (l₀ : List ℕ) (r : RowRead) (w : List ℤ) (l : List ℕ) : Type 0 where
-  pub answer : saidRow r ≡ briefRow g
+  pub answer : said_row r ≡ brief_row g
   pub filled : TermsPut ts w₀ l₀ w l
 
 pub record StatementWalked (o : Options) (s : List ℕ) (w₀ : List ℤ) (l₀ : List ℕ) (r : StatementRead) (w : List ℤ)
     (l : List ℕ) : Type 0 where
-  pub answer : saidStatement r ≡ briefStep (statement o s)
-  pub filled : TermsPut (statementMet o s) w₀ l₀ w l
+  pub answer : said_statement r ≡ brief_step (statement o s)
+  pub filled : TermsPut (statement_met o s) w₀ l₀ w l

@@ -1,11 +1,11 @@
 // What is answered of a statement, and a row's or a comment's answer from further on (01, "The text"). Assumes nothing.
 ghost use Rattle.std.specs.Prelude.{◌≡◌};
 ghost use Rattle.definitions.specs.Reader.{more};
-ghost use Rattle.closings.specs.Closed.{saidRow};
-ghost use Rattle.statements.specs.Brief.{rowAfter, commentAfter};
+ghost use Rattle.closings.specs.Closed.{said_row};
+ghost use Rattle.statements.specs.Brief.{row_after, comment_after};
 ghost use Rattle.statements.specs.Fitting.{Fitting, CommentFitting};
-ghost use Rattle.beginnings.specs.Said.{saidComment};
-ghost use Rattle.statements.specs.Said.{saidStatement};
+ghost use Rattle.beginnings.specs.Said.{said_comment};
+ghost use Rattle.statements.specs.Said.{said_statement};
 
 use beginnings::CommentRead;
 use closings::RowRead;
@@ -22,8 +22,8 @@ pub enum StatementRead {
 
 // A row's answer, behind a sum of n bytes.
 pub(crate) fn behind(n: usize, r: RowRead) -> RowRead
-    requires { Fitting n (saidRow r) }
-    ensures { saidRow result ≡ more n (saidRow r) }
+    requires { Fitting n (said_row r) }
+    ensures { said_row result ≡ more n (said_row r) }
 {
     match r {
         RowRead::Refused(e) => RowRead::Refused(e),
@@ -36,8 +36,8 @@ pub(crate) fn behind(n: usize, r: RowRead) -> RowRead
 
 // A row's answer, k blanks on.
 pub(crate) fn row_after(k: usize, r: RowRead) -> StatementRead
-    requires { Fitting k (saidRow r) }
-    ensures { saidStatement result ≡ rowAfter k (saidRow r) }
+    requires { Fitting k (said_row r) }
+    ensures { said_statement result ≡ row_after k (said_row r) }
 {
     match r {
         RowRead::Refused(e) => StatementRead::Refused(Refusal {
@@ -53,7 +53,7 @@ pub(crate) fn row_after(k: usize, r: RowRead) -> StatementRead
 
 pub(crate) fn comment_after(k: usize, r: CommentRead) -> StatementRead
     requires { CommentFitting k r }
-    ensures { saidStatement result ≡ commentAfter k (saidComment r) }
+    ensures { said_statement result ≡ comment_after k (said_comment r) }
 {
     match r {
         CommentRead::Missing => StatementRead::Refused(Refusal {

@@ -2,11 +2,11 @@
 // there, and leaves in the columns the terms that it met, as far as both have room. Assumes nothing.
 ghost use Rattle.std.specs.Prelude.{◌≡◌};
 ghost use Rattle.definitions.specs.Text.{constraint, goal, statement};
-ghost use Rattle.sums.specs.Met.{metTerms};
-ghost use Rattle.statements.specs.Brief.{briefStep};
-ghost use Rattle.statements.specs.Met.{goalMet};
+ghost use Rattle.sums.specs.Met.{met_terms};
+ghost use Rattle.statements.specs.Brief.{brief_step};
+ghost use Rattle.statements.specs.Met.{goal_met};
 ghost use Rattle.statements.specs.Walked.{RowWalked, StatementWalked};
-ghost use Rattle.statements.specs.Said.{saidStatement};
+ghost use Rattle.statements.specs.Said.{said_statement};
 
 use crate::row::StatementRead;
 use beginnings::MinRead;
@@ -15,7 +15,7 @@ use definitions::{Beginning, Fault, Options, Refusal};
 use sums::SumRead;
 
 fn constraint(s: &[u8], options: Options, weights: &mut [i64], literals: &mut [u32]) -> RowRead
-    ensures { RowWalked (constraint options s.now) (metTerms options s.now) weights.old literals.old result weights.new literals.new }
+    ensures { RowWalked (constraint options s.now) (met_terms options s.now) weights.old literals.old result weights.new literals.new }
 {
     match sums::weighted_lit_sum(s, options, weights, literals) {
         SumRead::Refused(e) => RowRead::Refused(e),
@@ -27,7 +27,7 @@ fn constraint(s: &[u8], options: Options, weights: &mut [i64], literals: &mut [u
 }
 
 fn objective(s: &[u8], options: Options, weights: &mut [i64], literals: &mut [u32]) -> RowRead
-    ensures { RowWalked (goal options s.now) (goalMet options s.now) weights.old literals.old result weights.new literals.new }
+    ensures { RowWalked (goal options s.now) (goal_met options s.now) weights.old literals.old result weights.new literals.new }
 {
     let MinRead::Min(k) = beginnings::read_min(s) else {
         return RowRead::Refused(Fault { number: 2 });
@@ -75,7 +75,7 @@ pub fn walk_statement(
 
 // The statement alone: no columns are lent.
 pub fn opb_data(s: &[u8], options: Options) -> StatementRead
-    ensures { saidStatement result ≡ briefStep (statement options s.now) }
+    ensures { said_statement result ≡ brief_step (statement options s.now) }
 {
     let mut weights = [0i64; 0];
     let mut literals = [0u32; 0];

@@ -3,13 +3,13 @@
 use mathlib.Core.Path.{◌≡◌, sym, ◌∙◌}
 use Prim.Native.Nat.{ℕ}
 use native.Mathlib.Omega.{arith}
-use Rattle.summed.specs.Sums.{saidSummed}
+use Rattle.summed.specs.Sums.{said_summed}
 use Rattle.summed.specs.declared.Summed.{Summed}
 use Rattle.summed.specs.declared.Summed.TheVariants.{Refused, Is}
 use Rattle.summed.proofs.sum_row.Reads as sum_row
 
 -- an answer is known by what it says
-pub said-summed : (r r' : Summed) → saidSummed r ≡ saidSummed r' → r ≡ r'
+pub said-summed : (r r' : Summed) → said_summed r ≡ said_summed r' → r ≡ r'
 said-summed (Refused n) (Refused m) e = cc
 said-summed (Refused n) (Is z) e = let z : ◌≡◌ {A = ℕ} 0 1 = cc in absurd (omega arith)
 said-summed (Is z) (Refused m) e = let z : ◌≡◌ {A = ℕ} 0 1 = cc in absurd (omega arith)

@@ -10,30 +10,30 @@ use lib.Dec.{leb}
 use lib.IntN.{ℤ}
 use lib.ListN.{length, take, drop}
 use lib.Seq.{take_all}
-use Rattle.definitions.specs.Limits.{weightLimit}
+use Rattle.definitions.specs.Limits.{weight_limit}
 use Rattle.definitions.specs.Refusal.{Checked, refuse, accept}
-use Rattle.definitions.specs.Table.{termsOn}
+use Rattle.definitions.specs.Table.{terms_on}
 use Rattle.definitions.specs.Meaning.{Assignment, sum_of, assigned}
-use Rattle.term_checks.specs.TermTests.{codesIndexed, weightSizes}
+use Rattle.term_checks.specs.TermTests.{codes_indexed, weight_sizes}
 use Rattle.term_checks.proofs.Terms.{indexed-on, sizes-on, terms-drop, terms-take}
-use Rattle.assigned.specs.WordsSay.{hasBy, codesCovered}
-use Rattle.summed.specs.Sums.{summedOver, summedAt}
+use Rattle.assigned.specs.WordsSay.{has_by, codes_covered}
+use Rattle.summed.specs.Sums.{summed_over, summed_at}
 use Rattle.summed.proofs.Literals.{covered-on}
 
 module _ (has : ℕ → Bool) (a : Assignment) (ws : List ℤ) (cs : List ℕ) (l : length ws ≡ length cs) where
-  pub sums-11 : codesIndexed cs ≡ false → refuse 11 ≡ summedOver has a (termsOn ws cs)
+  pub sums-11 : codes_indexed cs ≡ false → refuse 11 ≡ summed_over has a (terms_on ws cs)
   sums-11 i = rw (indexed-on ws cs l, i)
 
-  module _ (i : codesIndexed cs ≡ true) where
-    pub sums-8 : weightLimit < weightSizes ws → refuse 8 ≡ summedOver has a (termsOn ws cs)
-    sums-8 h = rw (indexed-on ws cs l, i, sizes-on ws cs l, lt-leb (weightSizes ws) weightLimit h)
+  module _ (i : codes_indexed cs ≡ true) where
+    pub sums-8 : weight_limit < weight_sizes ws → refuse 8 ≡ summed_over has a (terms_on ws cs)
+    sums-8 h = rw (indexed-on ws cs l, i, sizes-on ws cs l, lt-leb (weight_sizes ws) weight_limit h)
 
-    module _ (h : weightSizes ws ≤ weightLimit) where
-      pub sums-12 : codesCovered has cs ≡ false → refuse 12 ≡ summedOver has a (termsOn ws cs)
-      sums-12 c = rw (indexed-on ws cs l, i, sizes-on ws cs l, le-leb (weightSizes ws) weightLimit h, covered-on has ws cs l, c)
+    module _ (h : weight_sizes ws ≤ weight_limit) where
+      pub sums-12 : codes_covered has cs ≡ false → refuse 12 ≡ summed_over has a (terms_on ws cs)
+      sums-12 c = rw (indexed-on ws cs l, i, sizes-on ws cs l, le-leb (weight_sizes ws) weight_limit h, covered-on has ws cs l, c)
 
-      pub sums-up : codesCovered has cs ≡ true → accept (sum_of a (termsOn ws cs)) ≡ summedOver has a (termsOn ws cs)
-      sums-up c = rw (indexed-on ws cs l, i, sizes-on ws cs l, le-leb (weightSizes ws) weightLimit h, covered-on has ws cs l, c)
+      pub sums-up : codes_covered has cs ≡ true → accept (sum_of a (terms_on ws cs)) ≡ summed_over has a (terms_on ws cs)
+      sums-up c = rw (indexed-on ws cs l, i, sizes-on ws cs l, le-leb (weight_sizes ws) weight_limit h, covered-on has ws cs l, c)
 
 -- ---- the terms of a row in their columns, under the first m words
 
@@ -45,15 +45,15 @@ take-room n l = cases (dec_le (length l) n)
     cases (no h) = let e : min (length l) n ≡ n = omega arith in rw e
 
 pub row-outside : (first count : ℕ) (ws : List ℤ) (cs : List ℕ) (all : Bool) (words known : List ℕ)
-    → leb (first + count) (min (length ws) (length cs)) ≡ false → refuse 11 ≡ summedAt first count ws cs all words known
+    → leb (first + count) (min (length ws) (length cs)) ≡ false → refuse 11 ≡ summed_at first count ws cs all words known
 row-outside first count ws cs all words known o = rw o
 
 module _ (first count n : ℕ) (ws : List ℤ) (cs : List ℕ) (all : Bool) (words known : List ℕ) (h k m : ℕ) where
   pub row-summed : (r : Checked ℤ) → n ≡ count → h ≡ min (length words) m → k ≡ min (length known) m
       → leb (first + count) (min (length ws) (length cs)) ≡ true
-      → r ≡ summedOver (hasBy all (take h words) (take k known)) (assigned (take h words))
-      (termsOn (take n (drop first ws)) (take n (drop first cs)))
-      → r ≡ summedAt first count ws cs all (take m words) (take m known)
+      → r ≡ summed_over (has_by all (take h words) (take k known)) (assigned (take h words))
+      (terms_on (take n (drop first ws)) (take n (drop first cs)))
+      → r ≡ summed_at first count ws cs all (take m words) (take m known)
   row-summed r en eh ek o e =
       rw (
         o,

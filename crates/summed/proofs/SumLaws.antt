@@ -9,16 +9,16 @@ use lib.IntN.{ℤ, pos, nat_abs, ◌+ℤ◌, +ℤ_idl, +ℤ_idr, +ℤ_assoc}
 use lib.ListN.{length, get_or, take}
 use mir.Syntax.{w64}
 use mir.Val.{SFits}
-use Rattle.definitions.specs.Limits.{weightLimit}
+use Rattle.definitions.specs.Limits.{weight_limit}
 use Rattle.definitions.specs.Row.{Term, sizes}
-use Rattle.definitions.specs.Table.{termsOn}
-use Rattle.definitions.specs.Meaning.{isTrue, sum_of}
+use Rattle.definitions.specs.Table.{terms_on}
+use Rattle.definitions.specs.Meaning.{is_true, sum_of}
 use Rattle.definitions.proofs.Whole.{abs_is, sum_is, one_side, is-in}
 use Rattle.term_checks.proofs.Terms.{terms-take, terms-to}
 
 -- what a term adds
 abbrev counted : (ℕ → Bool) → ℤ → ℕ → ℤ
-counted a w c = cond (isTrue a c) w (pos 0)
+counted a w c = cond (is_true a c) w (pos 0)
 
 -- ---- sizes
 
@@ -33,7 +33,7 @@ sum-size : (a : ℕ → Bool) (ts : List Term) → nat_abs (sum_of a ts) ≤ siz
 unfolding sum_of sizes
 sum-size a [] = omega arith
 sum-size a (t ∷ ts) =
-    omega (arith, whole-size (counted a t.weight t.code) (sum_of a ts), counted-size (isTrue a t.code) t.weight, sum-size a ts)
+    omega (arith, whole-size (counted a t.weight t.code) (sum_of a ts), counted-size (is_true a t.code) t.weight, sum-size a ts)
 
 sizes-part : (n : ℕ) (ts : List Term) → sizes (take n ts) ≤ sizes ts
 unfolding sizes
@@ -41,11 +41,11 @@ sizes-part zero ts = omega arith
 sizes-part (suc n) [] = omega arith
 sizes-part (suc n) (t ∷ ts) = omega (arith, sizes-part n ts)
 
-abs-in : (z : ℤ) → nat_abs z ≤ weightLimit → SFits w64 z
+abs-in : (z : ℤ) → nat_abs z ≤ weight_limit → SFits w64 z
 abs-in z h = is-in z (omega (arith, abs_is z)) (omega (arith, abs_is z))
 
 -- a sum, of absolute weights of at most M together, is in 64 signed bits
-pub sum-in : (a : ℕ → Bool) (ts : List Term) → sizes ts ≤ weightLimit → SFits w64 (sum_of a ts)
+pub sum-in : (a : ℕ → Bool) (ts : List Term) → sizes ts ≤ weight_limit → SFits w64 (sum_of a ts)
 sum-in a ts h = abs-in (sum_of a ts) (omega (arith, sum-size a ts))
 
 -- ---- the walk over the terms of two columns
@@ -58,23 +58,23 @@ sum-snoc a (u ∷ ts) t = rw (sum-snoc a ts t, +ℤ_assoc)
 module _ (a : ℕ → Bool) (ws : List ℤ) (cs : List ℕ) where
   -- of the first i terms
   abbrev pub sum_to : ℕ → ℤ
-  sum_to i = sum_of a (termsOn (take i ws) (take i cs))
+  sum_to i = sum_of a (terms_on (take i ws) (take i cs))
 
   module _ (i : ℕ) where
-    pub sum-to-in : sizes (termsOn ws cs) ≤ weightLimit → SFits w64 (sum_to i)
+    pub sum-to-in : sizes (terms_on ws cs) ≤ weight_limit → SFits w64 (sum_to i)
     sum-to-in h =
-        let e : termsOn (take i ws) (take i cs) ≡ take i (termsOn ws cs) = sym (terms-take i ws cs) in
-        sum-in a (termsOn (take i ws) (take i cs)) (omega (arith, ap sizes e, sizes-part i (termsOn ws cs)))
+        let e : terms_on (take i ws) (take i cs) ≡ take i (terms_on ws cs) = sym (terms-take i ws cs) in
+        sum-in a (terms_on (take i ws) (take i cs)) (omega (arith, ap sizes e, sizes-part i (terms_on ws cs)))
 
     module _ (h : i < length ws) (g : i < length cs) where
       more : sum_to (i + 1) ≡ sum_to i +ℤ counted a (get_or ws i (pos 0)) (get_or cs i 0)
-      more = rw (terms-to ws cs i h g) (sum-snoc a (termsOn (take i ws) (take i cs)) (record {
+      more = rw (terms-to ws cs i h g) (sum-snoc a (terms_on (take i ws) (take i cs)) (record {
         weight = get_or ws i (pos 0);
         code = get_or cs i 0;
       }))
 
-      pub sum-true : isTrue a (get_or cs i 0) ≡ true → sum_to i +ℤ get_or ws i (pos 0) ≡ sum_to (i + 1)
+      pub sum-true : is_true a (get_or cs i 0) ≡ true → sum_to i +ℤ get_or ws i (pos 0) ≡ sum_to (i + 1)
       sum-true t = sym (more ∙ rw t)
 
-      pub sum-false : isTrue a (get_or cs i 0) ≡ false → sum_to i ≡ sum_to (i + 1)
+      pub sum-false : is_true a (get_or cs i 0) ≡ false → sum_to i ≡ sum_to (i + 1)
       sum-false t = sym (more ∙ rw t (+ℤ_idr (sum_to i)))

@@ -2,14 +2,14 @@
 // weights, 12", or the sum. What the words assign is asked of crates/assigned, which `words`, `known` and `all` are
 // for. Assumes nothing.
 ghost use Rattle.std.specs.Prelude.{◌≡◌, true, ◌*◌, ◌≤◌, ◌<◌, length};
-ghost use Rattle.definitions.specs.Limits.{weightLimit};
+ghost use Rattle.definitions.specs.Limits.{weight_limit};
 ghost use Rattle.definitions.specs.Literal.{index_of};
 ghost use Rattle.definitions.specs.Row.{sizes};
-ghost use Rattle.definitions.specs.Table.{termsOn};
-ghost use Rattle.definitions.specs.Meaning.{isTrue, sum_of, assigned};
+ghost use Rattle.definitions.specs.Table.{terms_on};
+ghost use Rattle.definitions.specs.Meaning.{is_true, sum_of, assigned};
 ghost use Rattle.definitions.specs.Evaluate.{within};
-ghost use Rattle.assigned.specs.WordsSay.{looked, hasBy, codesCovered};
-ghost use Rattle.summed.specs.Sums.{saidSummed, summedOver, summedAt};
+ghost use Rattle.assigned.specs.WordsSay.{looked, has_by, codes_covered};
+ghost use Rattle.summed.specs.Sums.{said_summed, summed_over, summed_at};
 
 use definitions::{WEIGHT_LIMIT, WORD_LIMIT};
 use literals::Lit;
@@ -24,7 +24,7 @@ pub enum Summed {
 // "Variable v is bit v mod 64 of word v/64."
 fn is_true(literal: Lit, words: &[u64]) -> bool
     requires { index_of literal.0 < 64 * length words.now }
-    ensures { result ≡ isTrue (assigned words.now) literal.0 }
+    ensures { result ≡ is_true (assigned words.now) literal.0 }
 {
     let v = literal.var().index() as usize;
     let word = words[v / 64];
@@ -36,9 +36,9 @@ fn is_true(literal: Lit, words: &[u64]) -> bool
 // bits.
 fn sum_of(weights: &[i64], literals: &[u32], words: &[u64]) -> i64
     requires lengths { length weights.now ≡ length literals.now }
-    requires small { sizes (termsOn weights.now literals.now) ≤ weightLimit }
-    requires covers { codesCovered (within words.now) literals.now ≡ true }
-    ensures { result ≡ sum_of (assigned words.now) (termsOn weights.now literals.now) }
+    requires small { sizes (terms_on weights.now literals.now) ≤ weight_limit }
+    requires covers { codes_covered (within words.now) literals.now ≡ true }
+    ensures { result ≡ sum_of (assigned words.now) (terms_on weights.now literals.now) }
 {
     let mut sum: i64 = 0;
     let mut i: usize = 0;
@@ -55,7 +55,7 @@ fn sum_of(weights: &[i64], literals: &[u32], words: &[u64]) -> i64
 // Terms that lie in their columns: what is left of 11, then "8 for absolute weights, 12".
 fn sum_terms(weights: &[i64], literals: &[u32], words: &[u64], known: &[u64], all: bool) -> Summed
     requires { length weights.now ≡ length literals.now }
-    ensures { saidSummed result ≡ summedOver (hasBy all words.now known.now) (assigned words.now) (termsOn weights.now literals.now) }
+    ensures { said_summed result ≡ summed_over (has_by all words.now known.now) (assigned words.now) (terms_on weights.now literals.now) }
 {
     let indexed = term_checks::indexed_of(literals);
     let size = term_checks::sizes_of(weights);
@@ -82,7 +82,7 @@ pub fn sum_row(
     known: &[u64],
     all: bool,
 ) -> Summed
-    ensures { saidSummed result ≡ summedAt first count weights.now literals.now all (looked words.now) (looked known.now) }
+    ensures { said_summed result ≡ summed_at first count weights.now literals.now all (looked words.now) (looked known.now) }
 {
     let room = columns::term_room(weights, literals);
     if !columns::in_column(first, count, room) {

@@ -2,15 +2,15 @@
 -- contract allows are equal.
 use mathlib.Core.Path.{◌≡◌, sym, ap, ◌∙◌}
 use Rattle.definitions.proofs.Truths.{never}
-use Rattle.sums.specs.Brief.{SumBrief, sumBrief, saidSum}
+use Rattle.sums.specs.Brief.{SumBrief, sum_brief, said_sum}
 use Rattle.sums.specs.declared.SumRead.{SumRead}
 use Rattle.sums.specs.declared.SumRead.TheVariants.{Sum, Refused}
 use Rattle.sums.proofs.weighted_lit_sum.Reads as weighted-lit-sum
 
 -- an answer is known by what it says
-pub said-sum : (r r' : SumRead) → saidSum r ≡ saidSum r' → r ≡ r'
+pub said-sum : (r r' : SumRead) → said_sum r ≡ said_sum r' → r ≡ r'
 said-sum (Sum n m k) (Sum n' m' k') e =
-    let b : sumBrief n m ≡ sumBrief n' m' = cc in
+    let b : sum_brief n m ≡ sum_brief n' m' = cc in
     let p : n ≡ n' = ap (λ (x : SumBrief). x.terms) b in
     let q : m ≡ m' = ap (λ (x : SumBrief). x.size) b in
     let l : k ≡ k' = cc in

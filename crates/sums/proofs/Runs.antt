@@ -13,17 +13,17 @@ use mir.Val.{SFits, to_z, of_z}
 use mir.Facts.{to_z-of_z, to_z_pos}
 use Rattle.definitions.specs.Number.{signed}
 use Rattle.definitions.specs.Refusal.{Checked, refuse, accept}
-use Rattle.definitions.specs.Literal.{index, codeFor}
-use Rattle.definitions.specs.Text.{termStep}
+use Rattle.definitions.specs.Literal.{index, code_for}
+use Rattle.definitions.specs.Text.{term_step}
 use Rattle.definitions.specs.declared.Options.{Options}
 use Rattle.definitions.proofs.Parts.{part-is}
 use Rattle.definitions.proofs.Statements.{term-moves}
-use Rattle.term_checks.specs.Sizes.{sizeCap, capped}
+use Rattle.term_checks.specs.Sizes.{size_cap, capped}
 use Rattle.plain.proofs.PlainTerms.{plain-is-term}
 use Rattle.literals.proofs.Conversions.{accepted, no-refusal, index-within, literal-within}
 use Rattle.numbers.proofs.Signed.{neg-sfits, neg_is}
 use Rattle.sums.specs.Walked.{TermPut}
-use Rattle.plain.specs.Plain.{saidPlain, plainAt, plainTerm, PlainFits, PlainIs}
+use Rattle.plain.specs.Plain.{said_plain, plain_at, plain_term, PlainFits, PlainIs}
 use Rattle.sums.specs.Run.{Ran, begun, further, RunSays}
 use Rattle.plain.specs.declared.PlainTerm.{PlainTerm}
 use Rattle.plain.specs.declared.PlainRead.{PlainRead}
@@ -55,8 +55,8 @@ module _ {first : ℕ} {p : PlainTerm} (h : PlainFits first p) where
   pub plain-indexed : refuse 5 ≡ index first p.number → ⊥
   plain-indexed e = no-refusal _ 5 (indexed ∙ sym e)
 
-  pub plain-coded : {i : ℕ} {x : Checked ℕ} → accept i ≡ index first p.number → x ≡ codeFor p.negated i
-      → x ≡ accept (plainTerm first p).code
+  pub plain-coded : {i : ℕ} {x : Checked ℕ} → accept i ≡ index first p.number → x ≡ code_for p.negated i
+      → x ≡ accept (plain_term first p).code
   plain-coded {i} e c =
       let q : i ≡ p.number - first = accepted i _ (e ∙ sym indexed) in
       c ∙ rw q (sym (literal-within p.negated (p.number - first) (omega (arith, h.most))))
@@ -84,8 +84,8 @@ module _ {o : Options} {s : List ℕ} {count₀ size₀ : ℕ} {w₀ : List ℤ}
       }
 
   -- a size up to the cap stays there
-  pub ran-under : size₀ ≤ sizeCap → {at count size : ℕ} {w : List ℤ} {l : List ℕ} → Ran o s count₀ size₀ w₀ l₀ at count size w l
-      → size ≤ sizeCap
+  pub ran-under : size₀ ≤ size_cap → {at count size : ℕ} {w : List ℤ} {l : List ℕ} → Ran o s count₀ size₀ w₀ l₀ at count size w l
+      → size ≤ size_cap
   ran-under h begun = h
   ran-under h (further t n r e p) = omega arith
 
@@ -93,14 +93,14 @@ module _ {o : Options} {s : List ℕ} {count₀ size₀ : ℕ} {w₀ : List ℤ}
   module _ {at count size : ℕ} {w : List ℤ} {l : List ℕ} (r : Ran o s count₀ size₀ w₀ l₀ at count size w l) {p : PlainTerm} {n : ℕ}
       (is : PlainIs o (drop at s) p n) where
     pub plain-has-byte : 0 < n
-    plain-has-byte = (term-moves o).least (drop at s) (plainTerm o.first p) n is.step
+    plain-has-byte = (term-moves o).least (drop at s) (plain_term o.first p) n is.step
 
     pub ran-plain : {size' : ℕ} {w' : List ℤ} {l' : List ℕ} → size' ≡ capped (size + p.size)
-        → TermPut count (plainTerm o.first p).weight (plainTerm o.first p).code w l w' l'
+        → TermPut count (plain_term o.first p).weight (plain_term o.first p).code w l w' l'
         → Ran o s count₀ size₀ w₀ l₀ (at + n) (count + 1) size' w' l'
     ran-plain e put =
-        let a : p.size ≡ nat_abs (plainTerm o.first p).weight = sym (signed-size p.negative p.size) in
-        rw (e, a) (further (plainTerm o.first p) n r is.step put)
+        let a : p.size ≡ nat_abs (plain_term o.first p).weight = sym (signed-size p.negative p.size) in
+        rw (e, a) (further (plain_term o.first p) n r is.step put)
 
 -- ---- the rest of a text
 
@@ -114,9 +114,9 @@ none_passed s = omega arith
 
 -- from an offset on: an answer that is a plain term there, and what is left behind it
 module _ (s : List ℕ) (at n : ℕ) {rest : List ℕ} (is : rest ≡ drop at s) where
-  pub plain-there : (o : Options) (r : PlainRead) (p : PlainTerm) → saidPlain r ≡ plainAt o rest → r ≡ read.Plain p n
+  pub plain-there : (o : Options) (r : PlainRead) (p : PlainTerm) → said_plain r ≡ plain_at o rest → r ≡ read.Plain p n
       → PlainIs o (drop at s) p n
-  plain-there o r p h e = plain-is-term o (drop at s) p n (ap (plainAt o) (sym is) ∙ sym h ∙ ap saidPlain e)
+  plain-there o r p h e = plain-is-term o (drop at s) p n (ap (plain_at o) (sym is) ∙ sym h ∙ ap said_plain e)
 
   pub rest-behind : take (length rest - n) (drop n rest) ≡ drop (at + n) s
   rest-behind = part-is rest n ∙ rw is (drop-drop n at s)
@@ -151,7 +151,7 @@ module _ {o : Options} {s : List ℕ} {w₀ : List ℤ} {l₀ : List ℕ} {at₀
   walking-ran begun = let e : at₀ + 0 ≡ at₀ = omega arith in rw e i
   walking-ran (further {at} {count} {size} {w} {w'} {l} {l'} t n r e p) =
       let a : at₀ + (at + n) ≡ at₀ + at + n = omega arith in
-      let q = sym (ap (termStep o) (drop-drop at at₀ s)) ∙ e in
+      let q = sym (ap (term_step o) (drop-drop at at₀ s)) ∙ e in
       rw a (walking-term o s w₀ l₀ (at₀ + at) count size w l (walking-ran r) t n q w' l' p)
 
   -- the run is asked on a part of the text

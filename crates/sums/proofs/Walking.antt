@@ -11,18 +11,18 @@ use lib.Dec.{ltb}
 use lib.ListN.{length, take, drop, set, length-append, length-set}
 use lib.Seq.{take_all, take-nil, take-append-le, drop-drop}
 use lib.IntN.{ℤ, nat_abs}
-use Rattle.definitions.specs.Refusal.{faultOf}
+use Rattle.definitions.specs.Refusal.{fault_of}
 use Rattle.definitions.specs.declared.Refusal.{Refusal}
 use Rattle.definitions.specs.Lists.{over}
-use Rattle.definitions.specs.Row.{Term, weightOf, literalOf}
-use Rattle.definitions.specs.Stepping.{columnsRoom}
-use Rattle.definitions.specs.Text.{termStep}
+use Rattle.definitions.specs.Row.{Term, weight_of, literal_of}
+use Rattle.definitions.specs.Stepping.{columns_room}
+use Rattle.definitions.specs.Text.{term_step}
 use Rattle.definitions.specs.Walk.{stop, bad, item}
 use Rattle.definitions.specs.declared.Options.{Options}
 use Rattle.definitions.proofs.Columns.{column-more}
 use Rattle.definitions.proofs.Statements.{term-moves}
 use Rattle.term_checks.specs.Sizes.{capped}
-use Rattle.sums.specs.Met.{metFrom, metTerms}
+use Rattle.sums.specs.Met.{met_from, met_terms}
 use Rattle.sums.specs.Walked.{TermsPut, TermPut, SumWalked}
 use Rattle.sums.specs.declared.SumRead.TheVariants as walked
 use Rattle.sums.proofs.MetTerms.{met-stop, met-bad, met-item}
@@ -68,7 +68,7 @@ module _ {B : Type 0} (f : Term → B) (room at : ℕ) (pre : List Term) (t : Te
 module _ (o : Options) (s : List ℕ) (w₀ : List ℤ) (l₀ : List ℕ) where
   pub record Walking (at count size : ℕ) (w : List ℤ) (l : List ℕ) : Type 0 where
     pub summing : Summing o s at count size
-    pub met : metTerms o s ≡ summing.terms ++ metFrom (termStep o) (drop at s) 0
+    pub met : met_terms o s ≡ summing.terms ++ met_from (term_step o) (drop at s) 0
     pub weights : length w ≡ length w₀
     pub literals : length l ≡ length l₀
     pub put : TermsPut summing.terms w₀ l₀ w l
@@ -81,49 +81,49 @@ module _ (o : Options) (s : List ℕ) (w₀ : List ℤ) (l₀ : List ℕ) where
         met = refl;
         weights = refl;
         literals = refl;
-        put = rw (take-nil {A = Term} (columnsRoom w₀ l₀)) (record { weights = refl; literals = refl });
+        put = rw (take-nil {A = Term} (columns_room w₀ l₀)) (record { weights = refl; literals = refl });
       }
 
   module _ (at count size : ℕ) (w : List ℤ) (l : List ℕ) (i : Walking at count size w l) where
     -- no term more is met
-    ended : metFrom (termStep o) (drop at s) 0 ≡ [] → TermsPut (metTerms o s) w₀ l₀ w l
+    ended : met_from (term_step o) (drop at s) 0 ≡ [] → TermsPut (met_terms o s) w₀ l₀ w l
     ended e = rw (i.met ∙ ap (λ (x : List Term). i.summing.terms ++ x) e ∙ append-nil i.summing.terms) i.put
 
-    pub walking-stop : termStep o (drop at s) ≡ stop → SumWalked o s w₀ l₀ (walked.Sum count size at) w l
+    pub walking-stop : term_step o (drop at s) ≡ stop → SumWalked o s w₀ l₀ (walked.Sum count size at) w l
     walking-stop e =
-        record { answer = summing-stop o s at count size i.summing e; filled = ended (met-stop (termStep o) (drop at s) e) }
+        record { answer = summing-stop o s at count size i.summing e; filled = ended (met-stop (term_step o) (drop at s) e) }
 
-    pub walking-bad : (r : Refusal) → termStep o (drop at s) ≡ bad r → SumWalked o s w₀ l₀ (walked.Refused (faultOf r)) w l
+    pub walking-bad : (r : Refusal) → term_step o (drop at s) ≡ bad r → SumWalked o s w₀ l₀ (walked.Refused (fault_of r)) w l
     walking-bad r e =
-        record { answer = summing-bad o s at count size i.summing r e; filled = ended (met-bad (termStep o) (drop at s) r e) }
+        record { answer = summing-bad o s at count size i.summing r e; filled = ended (met-bad (term_step o) (drop at s) r e) }
 
     -- one term more
-    pub walking-term : (t : Term) (n : ℕ) → termStep o (drop at s) ≡ item t n
+    pub walking-term : (t : Term) (n : ℕ) → term_step o (drop at s) ≡ item t n
         → (w' : List ℤ) (l' : List ℕ) → TermPut count t.weight t.code w l w' l'
         → Walking (at + n) (count + 1) (capped (size + nat_abs t.weight)) w' l'
     unfolding summing-term
     walking-term t n e w' l' p =
         let h = put-lengths count t.weight t.code w l w' l' p in
         let pre = i.summing.terms in
-        let rest = metFrom (termStep o) (drop (at + n) s) 0 in
-        let r : min (length w) (length l) ≡ columnsRoom w₀ l₀ = omega (arith, i.weights, i.literals) in
+        let rest = met_from (term_step o) (drop (at + n) s) 0 in
+        let r : min (length w) (length l) ≡ columns_room w₀ l₀ = omega (arith, i.weights, i.literals) in
         record {
           summing = summing-term o s at count size i.summing t n e;
           met =
               i.met
               ∙ ap (λ (x : List Term). pre ++ x)
-              (met-item (termStep o) (term-moves o) (drop at s) t n e
-              ∙ ap (λ (x : List ℕ). t ∷ metFrom (termStep o) x 0) (drop-drop n at s))
+              (met-item (term_step o) (term-moves o) (drop at s) t n e
+              ∙ ap (λ (x : List ℕ). t ∷ met_from (term_step o) x 0) (drop-drop n at s))
               ∙ sym (append_assoc pre (t ∷ []) rest);
           weights = h.0 ∙ i.weights;
           literals = h.1 ∙ i.literals;
           put =
               record {
                 weights =
-                    room-more weightOf (columnsRoom w₀ l₀) count pre t w₀ w w' i.summing.counted (omega arith) i.put.weights
+                    room-more weight_of (columns_room w₀ l₀) count pre t w₀ w w' i.summing.counted (omega arith) i.put.weights
                     (rw r at p.weights);
                 literals =
-                    room-more literalOf (columnsRoom w₀ l₀) count pre t l₀ l l' i.summing.counted (omega arith) i.put.literals
+                    room-more literal_of (columns_room w₀ l₀) count pre t l₀ l l' i.summing.counted (omega arith) i.put.literals
                     (rw r at p.literals);
               };
         }

@@ -10,13 +10,13 @@ pub record SumBrief : Type 0 where
   pub terms : ℕ
   pub size : ℕ
 
-abbrev pub sumBrief : ℕ → ℕ → SumBrief
-sumBrief n m = record { terms = n; size = m }
+abbrev pub sum_brief : ℕ → ℕ → SumBrief
+sum_brief n m = record { terms = n; size = m }
 
 abbrev pub summed : Got (List Term) → Got SumBrief
 summed (none e) = none e
-summed (got ts n) = got (sumBrief (length ts) (capped (sizes ts))) n
+summed (got ts n) = got (sum_brief (length ts) (capped (sizes ts))) n
 
-abbrev pub saidSum : SumRead → Got SumBrief
-saidSum (read.Sum n m k) = got (sumBrief n m) k
-saidSum (read.Refused e) = none e
+abbrev pub said_sum : SumRead → Got SumBrief
+said_sum (read.Sum n m k) = got (sum_brief n m) k
+said_sum (read.Refused e) = none e

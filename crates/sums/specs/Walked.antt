@@ -1,22 +1,22 @@
 -- What a walk over a sum answers, and what it leaves in two lent columns.
 use Rattle.std.specs.Prelude.{ℕ, min, ◌≡◌, cond, List, map, ltb, length, take, set, ℤ}
 use Rattle.definitions.specs.Lists.{over}
-use Rattle.definitions.specs.Row.{Term, weightOf, literalOf}
+use Rattle.definitions.specs.Row.{Term, weight_of, literal_of}
 use Rattle.definitions.specs.Text.{sum}
-use Rattle.definitions.specs.Stepping.{columnsRoom}
+use Rattle.definitions.specs.Stepping.{columns_room}
 use Rattle.definitions.specs.declared.Options.{Options}
-use Rattle.sums.specs.Brief.{summed, saidSum}
-use Rattle.sums.specs.Met.{metTerms}
+use Rattle.sums.specs.Brief.{summed, said_sum}
+use Rattle.sums.specs.Met.{met_terms}
 use Rattle.sums.specs.declared.SumRead.{SumRead}
 
 -- terms from the front of two columns, the rest as it was
 pub record TermsFilled (ts : List Term) (w₀ : List ℤ) (l₀ : List ℕ) (w : List ℤ) (l : List ℕ) : Type 0 where
-  pub weights : w ≡ over (map weightOf ts) w₀
-  pub literals : l ≡ over (map literalOf ts) l₀
+  pub weights : w ≡ over (map weight_of ts) w₀
+  pub literals : l ≡ over (map literal_of ts) l₀
 
 -- the same, as far as both columns have room
 abbrev pub TermsPut : List Term → List ℤ → List ℕ → List ℤ → List ℕ → Type 0
-TermsPut ts w₀ l₀ w l = TermsFilled (take (columnsRoom w₀ l₀) ts) w₀ l₀ w l
+TermsPut ts w₀ l₀ w l = TermsFilled (take (columns_room w₀ l₀) ts) w₀ l₀ w l
 
 -- a term at a place that both columns have, or neither changed
 pub record TermPut (at : ℕ) (weight : ℤ) (code : ℕ) (w₀ : List ℤ) (l₀ : List ℕ) (w : List ℤ) (l : List ℕ) : Type 0 where
@@ -25,5 +25,5 @@ pub record TermPut (at : ℕ) (weight : ℤ) (code : ℕ) (w₀ : List ℤ) (l�
 
 -- what the sum is, and the terms that were met
 pub record SumWalked (o : Options) (s : List ℕ) (w₀ : List ℤ) (l₀ : List ℕ) (r : SumRead) (w : List ℤ) (l : List ℕ) : Type 0 where
-  pub answer : saidSum r ≡ summed (sum o s)
-  pub filled : TermsPut (metTerms o s) w₀ l₀ w l
+  pub answer : said_sum r ≡ summed (sum o s)
+  pub filled : TermsPut (met_terms o s) w₀ l₀ w l

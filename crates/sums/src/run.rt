@@ -1,10 +1,10 @@
 // Plain terms one after the other: the loop where a file's time goes. Assumes nothing.
 ghost use Rattle.std.specs.Prelude.{◌≡◌, ◌+◌, ◌≤◌, ◌<◌, ◌^◌, length};
 ghost use Rattle.definitions.specs.Refusal.{accept};
-ghost use Rattle.literals.specs.Said.{saidLit};
-ghost use Rattle.term_checks.specs.Sizes.{sizeCap, capped};
+ghost use Rattle.literals.specs.Said.{said_lit};
+ghost use Rattle.term_checks.specs.Sizes.{size_cap, capped};
 ghost use Rattle.sums.specs.Walked.{TermPut};
-ghost use Rattle.plain.specs.Plain.{PlainFits, plainTerm};
+ghost use Rattle.plain.specs.Plain.{PlainFits, plain_term};
 ghost use Rattle.sums.specs.Run.{RunSays};
 
 use definitions::Options;
@@ -24,7 +24,7 @@ pub struct PlainRun {
 // The literal of a plain term, by its file number and its variable. Neither is out of range.
 fn plain_lit(term: PlainTerm, first: u32) -> LitRead
     requires { PlainFits first term }
-    ensures { saidLit result ≡ accept (plainTerm first term).code }
+    ensures { said_lit result ≡ accept (plain_term first term).code }
 {
     let FileNumberRead::Is(n) = FileNumber::of_digits(term.number) else {
         return LitRead::OutOfRange;
@@ -38,7 +38,7 @@ fn plain_lit(term: PlainTerm, first: u32) -> LitRead
 // A plain term at a place of two columns, if both have it.
 fn put_plain(weights: &mut [i64], literals: &mut [u32], at: usize, term: PlainTerm, first: u32)
     requires { PlainFits first term }
-    ensures { TermPut at (plainTerm first term).weight (plainTerm first term).code weights.old literals.old weights.new literals.new }
+    ensures { TermPut at (plain_term first term).weight (plain_term first term).code weights.old literals.old weights.new literals.new }
 {
     if at < columns::term_room(weights, literals) {
         let LitRead::Is(literal) = plain_lit(term, first) else {
@@ -53,7 +53,7 @@ fn put_plain(weights: &mut [i64], literals: &mut [u32], at: usize, term: PlainTe
 // A size up to the cap and a plain weight's more. That sum is within 64 bits, so it needs no look at the size before
 // it, as `term_checks::add_size` does for any two.
 fn add_plain(size: u64, weight: u64) -> u64
-    requires { (size ≤ sizeCap) × (weight < 100_000_000) }
+    requires { (size ≤ size_cap) × (weight < 100_000_000) }
     ensures { result ≡ capped (size + weight) }
 {
     let sum = size + weight;
@@ -69,7 +69,7 @@ pub(crate) fn walk_plain(
     from: usize,
     before: u64,
 ) -> PlainRun
-    requires { (from + length s.now < 2 ^ 64) × (before ≤ sizeCap) }
+    requires { (from + length s.now < 2 ^ 64) × (before ≤ size_cap) }
     ensures { RunSays options s.now from before weights.old literals.old result weights.new literals.new }
 {
     let mut terms: usize = from;

@@ -1,12 +1,12 @@
 // The class of a byte, and what it begins where a statement is to begin (01, "The text"). Assumes nothing.
 ghost use Rattle.std.specs.Prelude.{◌≡◌};
-ghost use Rattle.definitions.specs.Bytes.{classOf, begins};
+ghost use Rattle.definitions.specs.Bytes.{class_of, begins};
 
 use definitions::{Beginning, Class};
 
 // "Every byte belongs to one class."
 pub fn class_of(b: u8) -> Class
-    ensures { result ≡ classOf b }
+    ensures { result ≡ class_of b }
 {
     match b {
         b'0'..=b'9' => Class::Digit,
@@ -45,7 +45,7 @@ pub fn begins(c: Class) -> Beginning
 }
 
 pub fn beginning_of(b: u8) -> Beginning
-    ensures { result ≡ begins (classOf b) }
+    ensures { result ≡ begins (class_of b) }
 {
     begins(class_of(b))
 }

@@ -4,8 +4,8 @@ use mathlib.Core.List.{List}
 use Rattle.definitions.specs.Row.{Line}
 use Rattle.definitions.specs.Table.{Outcome, refused, accepted, counted}
 use Rattle.definitions.specs.Accepts.{number_of}
-use Rattle.table_answers.specs.ByValue.{tableAnswer}
+use Rattle.table_answers.specs.ByValue.{table_answer}
 
-pub told-number : (x : Outcome (List Line)) → (tableAnswer (counted x)).refusal ≡ number_of x
+pub told-number : (x : Outcome (List Line)) → (table_answer (counted x)).refusal ≡ number_of x
 told-number (refused r) = refl
 told-number (accepted ls) = refl

@@ -5,6 +5,6 @@ use Rattle.definitions.specs.Table.{Outcome, refused, accepted}
 use Rattle.definitions.specs.declared.Totals.{Totals}
 use Rattle.table_answers.specs.declared.OpbTable.{OpbTable}
 
-abbrev pub tableAnswer : Outcome Totals → OpbTable
-tableAnswer (refused r) = record { refusal = r.number; place = r.place; rows = 0; terms = 0 }
-tableAnswer (accepted n) = record { refusal = 0; place = 0; rows = n.rows; terms = n.terms }
+abbrev pub table_answer : Outcome Totals → OpbTable
+table_answer (refused r) = record { refusal = r.number; place = r.place; rows = 0; terms = 0 }
+table_answer (accepted n) = record { refusal = 0; place = 0; rows = n.rows; terms = n.terms }

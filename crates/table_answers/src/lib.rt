@@ -1,8 +1,8 @@
 // What a call of the library for C over a table answers (include/opb.h): a struct of numbers, by value. Assumes
 // nothing.
 ghost use Rattle.std.specs.Prelude.{◌≡◌};
-ghost use Rattle.definitions.specs.Answers.{saidCounted};
-ghost use Rattle.table_answers.specs.ByValue.{tableAnswer};
+ghost use Rattle.definitions.specs.Answers.{said_counted};
+ghost use Rattle.table_answers.specs.ByValue.{table_answer};
 
 use definitions::{Counted, Totals};
 
@@ -19,7 +19,7 @@ pub struct OpbTable {
 
 // What a callee answers, as C has it.
 pub fn table_answer(found: Counted) -> OpbTable
-    ensures { result ≡ tableAnswer (saidCounted found) }
+    ensures { result ≡ table_answer (said_counted found) }
 {
     match found {
         Counted::Refused(why) => OpbTable {

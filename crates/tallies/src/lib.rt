@@ -1,7 +1,7 @@
 // A whole walk of steps: every statement is checked, rows and terms are counted. Nothing is kept but the offset and the
 // counts. Assumes nothing.
 ghost use Rattle.std.specs.Prelude.{◌≡◌};
-ghost use Rattle.definitions.specs.Answers.{saidCounted};
+ghost use Rattle.definitions.specs.Answers.{said_counted};
 ghost use Rattle.definitions.specs.Table.{counted};
 ghost use Rattle.definitions.specs.File.{file};
 
@@ -10,7 +10,7 @@ use walker::Stepped;
 
 // "with the same answers": what is counted of the file as it is read at once, or its refusal of 1 to 8.
 pub fn count_steps(s: &[u8], options: Options) -> Counted
-    ensures { saidCounted result ≡ counted (file options s.now) }
+    ensures { said_counted result ≡ counted (file options s.now) }
 {
     let mut rows: usize = 0;
     let mut terms: usize = 0;

@@ -2,7 +2,7 @@
 // writer alike: whether its variables are within the limit, and how large its weights are together. Assumes nothing.
 ghost use Rattle.std.specs.Prelude.{◌≡◌, ◌+◌, nat_abs};
 ghost use Rattle.term_checks.specs.Sizes.{capped};
-ghost use Rattle.term_checks.specs.TermTests.{codesIndexed, weightSizes};
+ghost use Rattle.term_checks.specs.TermTests.{codes_indexed, weight_sizes};
 
 use literals::Lit;
 
@@ -11,7 +11,7 @@ pub const SIZE_CAP: u64 = 9_223_372_036_854_775_808;
 
 // Whether no literal has "an index above its limit".
 pub fn indexed_of(literals: &[u32]) -> bool
-    ensures { result ≡ codesIndexed literals.now }
+    ensures { result ≡ codes_indexed literals.now }
 {
     let mut i: usize = 0;
     while i < literals.len() {
@@ -37,7 +37,7 @@ pub fn add_size(size: u64, weight: i64) -> u64
 
 // The absolute weights together, up to the cap.
 pub fn sizes_of(weights: &[i64]) -> u64
-    ensures { result ≡ capped (weightSizes weights.now) }
+    ensures { result ≡ capped (weight_sizes weights.now) }
 {
     let mut size: u64 = 0;
     let mut i: usize = 0;

@@ -1,8 +1,8 @@
 -- What is met next in a block, with what a token of it says, and what the answers of src/next.rt say of it.
 use Rattle.std.specs.Prelude.{ℕ, Bool, List, [], ◌∷◌}
 use Rattle.definitions.specs.Refusal.{Checked, refuse, accept}
-use Rattle.items.specs.Items.{Found, nothing, line, word, textAt, end_at}
-use Rattle.tokens.specs.Said.{tokenSays}
+use Rattle.items.specs.Items.{Found, nothing, line, word, text_at, end_at}
+use Rattle.tokens.specs.Said.{token_says}
 use Rattle.tokens.specs.declared.token.Token.{Token}
 use Rattle.tokens.specs.declared.token.Token.TheVariants as said
 use Rattle.tokens.specs.declared.next.Next.{Next}
@@ -14,24 +14,24 @@ pub data Step : Type 0 where
   refuses : ℕ → ℕ → Step
   says : ℕ → ℕ → List ℕ → Step
 
-abbrev pub stepBy : ℕ → ℕ → Checked (List ℕ) → Step
-stepBy p e (refuse n) = refuses n p
-stepBy p e (accept cs) = says p e cs
+abbrev pub step_by : ℕ → ℕ → Checked (List ℕ) → Step
+step_by p e (refuse n) = refuses n p
+step_by p e (accept cs) = says p e cs
 
-abbrev pub stepAt : Bool → List ℕ → Found → Step
-stepAt named block nothing = ends
-stepAt named block (line p) = refuses 20 p
-stepAt named block (word p) = stepBy p (end_at block p) (tokenSays named (textAt block p))
+abbrev pub step_at : Bool → List ℕ → Found → Step
+step_at named block nothing = ends
+step_at named block (line p) = refuses 20 p
+step_at named block (word p) = step_by p (end_at block p) (token_says named (text_at block p))
 
-abbrev pub saidNext : Next → Step
-saidNext next.End = ends
-saidNext (next.Refused number place) = refuses number place
-saidNext (next.Nothing place end) = says place end []
-saidNext (next.Says place end l) = says place end (l.0 ∷ [])
+abbrev pub said_next : Next → Step
+said_next next.End = ends
+said_next (next.Refused number place) = refuses number place
+said_next (next.Nothing place end) = says place end []
+said_next (next.Says place end l) = says place end (l.0 ∷ [])
 
 -- a token from place to end, by what it says
-abbrev pub metOf : Token → ℕ → ℕ → Next
-metOf said.Bad place end = next.Refused 21 place
-metOf said.Beyond place end = next.Refused 5 place
-metOf said.Nothing place end = next.Nothing place end
-metOf (said.Literal l) place end = next.Says place end l
+abbrev pub met_of : Token → ℕ → ℕ → Next
+met_of said.Bad place end = next.Refused 21 place
+met_of said.Beyond place end = next.Refused 5 place
+met_of said.Nothing place end = next.Nothing place end
+met_of (said.Literal l) place end = next.Says place end l

@@ -1,7 +1,7 @@
 -- What the answers of src/token.rt say, in the words of the definitions.
 use Rattle.std.specs.Prelude.{ℕ, min, Bool, true, false, List, [], ◌∷◌}
 use Rattle.definitions.specs.Refusal.{Checked, refuse, accept}
-use Rattle.definitions.specs.Values.{signedToken, xToken}
+use Rattle.definitions.specs.Values.{signed_token, x_token}
 use Rattle.definitions.specs.declared.Form.{Form}
 use Rattle.definitions.specs.declared.Form.TheVariants.{SignedNumbers, XTokens}
 use Rattle.numbers.specs.Read.{cap}
@@ -15,22 +15,22 @@ abbrev pub capped : Checked ℕ → Checked ℕ
 capped (refuse e) = refuse e
 capped (accept n) = accept (min n cap)
 
-abbrev pub saidWhole : Whole → Checked ℕ
-saidWhole (whole.Number n) = accept n
-saidWhole whole.Bad = refuse 21
+abbrev pub said_whole : Whole → Checked ℕ
+said_whole (whole.Number n) = accept n
+said_whole whole.Bad = refuse 21
 
 -- "21 bad token", 5, the 0 that sets nothing, or the literal that becomes true
-abbrev pub saidToken : Token → Checked (List ℕ)
-saidToken token.Bad = refuse 21
-saidToken token.Beyond = refuse 5
-saidToken token.Nothing = accept []
-saidToken (token.Literal l) = accept (l.0 ∷ [])
+abbrev pub said_token : Token → Checked (List ℕ)
+said_token token.Bad = refuse 21
+said_token token.Beyond = refuse 5
+said_token token.Nothing = accept []
+said_token (token.Literal l) = accept (l.0 ∷ [])
 
 -- a token of a block whose variables have an `x`, or not
-abbrev pub tokenSays : Bool → List ℕ → Checked (List ℕ)
-tokenSays true s = xToken s
-tokenSays false s = signedToken s
+abbrev pub token_says : Bool → List ℕ → Checked (List ℕ)
+token_says true s = x_token s
+token_says false s = signed_token s
 
-abbrev pub formBy : Bool → Form
-formBy true = XTokens
-formBy false = SignedNumbers
+abbrev pub form_by : Bool → Form
+form_by true = XTokens
+form_by false = SignedNumbers

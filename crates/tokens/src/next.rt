@@ -1,7 +1,7 @@
 // What is met next in a block (02, A1), with what a token says. Assumes nothing.
 ghost use Rattle.std.specs.Prelude.{◌≡◌};
 ghost use Rattle.items.specs.Items.{found_from};
-ghost use Rattle.tokens.specs.NextTokens.{stepAt, saidNext, metOf};
+ghost use Rattle.tokens.specs.NextTokens.{step_at, said_next, met_of};
 
 use crate::token::{Token, token_says};
 use items::{NextItem, next_item};
@@ -28,7 +28,7 @@ pub enum Next {
 
 // A token that was met, in the words of the walks.
 fn met(token: Token, place: usize, end: usize) -> Next
-    ensures { result ≡ metOf token place end }
+    ensures { result ≡ met_of token place end }
 {
     match token {
         Token::Bad => Next::Refused { number: 21, place },
@@ -44,7 +44,7 @@ fn met(token: Token, place: usize, end: usize) -> Next
 
 // The same in the words of the walks, in a block whose variables have an `x`, or not.
 pub fn next_token(block: &[u8], from: usize, front: bool, named: bool) -> Next
-    ensures { saidNext result ≡ stepAt named block.now (found_from front from block.now) }
+    ensures { said_next result ≡ step_at named block.now (found_from front from block.now) }
 {
     match next_item(block, from, front) {
         NextItem::End => Next::End,

@@ -1,8 +1,8 @@
 // What one token says (02, A1): signed numbers and `x` tokens, with first index 1. Assumes nothing.
 ghost use Rattle.std.specs.Prelude.{◌≡◌};
 ghost use Rattle.definitions.specs.Table.{and_then};
-ghost use Rattle.definitions.specs.Values.{wholeNumber, literalFor, signedFor, signedToken, namedVariable, xToken};
-ghost use Rattle.tokens.specs.Said.{saidWhole, capped, saidToken, tokenSays};
+ghost use Rattle.definitions.specs.Values.{whole_number, literal_for, signed_for, signed_token, named_variable, x_token};
+ghost use Rattle.tokens.specs.Said.{said_whole, capped, said_token, token_says};
 
 use literals::{FileNumber, FileNumberRead, Lit, LitRead, Var, VarRead};
 use numbers::read_run;
@@ -27,7 +27,7 @@ pub(crate) enum Token {
 }
 
 fn whole_number(s: &[u8]) -> Whole
-    ensures { saidWhole result ≡ capped (wholeNumber s.now) }
+    ensures { said_whole result ≡ capped (whole_number s.now) }
 {
     let run = read_run(s);
     let count = run.count;
@@ -44,7 +44,7 @@ fn whole_number(s: &[u8]) -> Whole
 // The literal of the variable with that number: a file number, then a variable, then its literal; 5 where one of them
 // is not there.
 fn literal_for(negative: bool, size: u64) -> Token
-    ensures { saidToken result ≡ literalFor negative size }
+    ensures { said_token result ≡ literal_for negative size }
 {
     let FileNumberRead::Is(number) = FileNumber::of_digits(size) else {
         return Token::Beyond;
@@ -60,7 +60,7 @@ fn literal_for(negative: bool, size: u64) -> Token
 
 // A sign, and the digits behind it. The 0 that ends signed numbers sets nothing.
 fn signed_for(negative: bool, digits: &[u8]) -> Token
-    ensures { saidToken result ≡ and_then (wholeNumber digits.now) (signedFor negative) }
+    ensures { said_token result ≡ and_then (whole_number digits.now) (signed_for negative) }
 {
     match whole_number(digits) {
         Whole::Bad => Token::Bad,
@@ -75,7 +75,7 @@ fn signed_for(negative: bool, digits: &[u8]) -> Token
 
 // "signed numbers": optional `+` or `-`, digits.
 fn signed_token(s: &[u8]) -> Token
-    ensures { saidToken result ≡ signedToken s.now }
+    ensures { said_token result ≡ signed_token s.now }
 {
     if s.len() == 0 {
         return Token::Bad;
@@ -89,7 +89,7 @@ fn signed_token(s: &[u8]) -> Token
 
 // `x` and digits, and nothing behind them.
 fn named_variable(negative: bool, s: &[u8]) -> Token
-    ensures { saidToken result ≡ namedVariable negative s.now }
+    ensures { said_token result ≡ named_variable negative s.now }
 {
     if s.len() == 0 {
         return Token::Bad;
@@ -105,7 +105,7 @@ fn named_variable(negative: bool, s: &[u8]) -> Token
 
 // "`x` tokens": optional `~` or `-`, `x`, digits.
 fn x_token(s: &[u8]) -> Token
-    ensures { saidToken result ≡ xToken s.now }
+    ensures { said_token result ≡ x_token s.now }
 {
     if s.len() == 0 {
         return Token::Bad;
@@ -118,7 +118,7 @@ fn x_token(s: &[u8]) -> Token
 
 // A token of a block whose variables have an `x`, or not.
 pub(crate) fn token_says(named: bool, s: &[u8]) -> Token
-    ensures { saidToken result ≡ tokenSays named s.now }
+    ensures { said_token result ≡ token_says named s.now }
 {
     if named { x_token(s) } else { signed_token(s) }
 }

@@ -12,9 +12,9 @@ use lib.Seq.{append_snoc}
 use Rattle.definitions.specs.Refusal.{refusal, Checked, refuse, accept}
 use Rattle.definitions.specs.declared.Refusal.{Refusal}
 use Rattle.definitions.specs.Literal.{index_of, opposite}
-use Rattle.definitions.specs.Meaning.{isTrue, assigned, isKnown}
+use Rattle.definitions.specs.Meaning.{is_true, assigned, is_known}
 use Rattle.definitions.specs.Table.{Outcome, refused, accepted}
-use Rattle.definitions.specs.Values.{Item, untagged, token, among, conflicts, anyConflict, hear, literalsOf, held, lengthAfter, wordsFor}
+use Rattle.definitions.specs.Values.{Item, untagged, token, among, conflicts, any_conflict, hear, literals_of, held, length_after, words_for}
 use Rattle.definitions.specs.declared.Form.{Form}
 use Rattle.definitions.proofs.Truths.{either}
 use Rattle.heard.proofs.Split.{never, among-snoc}
@@ -47,22 +47,22 @@ module _ (ws ks : List ℕ) where
     -- one variable, one literal
     pub same : (c d : ℕ) → among c cs ≡ true → among d cs ≡ true → index_of c ≡ index_of d → c ≡ d
     -- true where the variable was known
-    pub fit : (c : ℕ) → among c cs ≡ true → isKnown ws ks (index_of c) ≡ true → isTrue (assigned ws) c ≡ true
+    pub fit : (c : ℕ) → among c cs ≡ true → is_known ws ks (index_of c) ≡ true → is_true (assigned ws) c ≡ true
 
   pub agree-none : Agree []
   unfolding among
   agree-none = record { same = λ c d a b e. never (sym a); fit = λ c a k. never (sym a) }
 
   module _ (heard : List ℕ) (c : ℕ) (h : conflicts ws ks heard c ≡ false) where
-    not-against : isKnown ws ks (index_of c) ≡ true → isTrue (assigned ws) c ≡ true
+    not-against : is_known ws ks (index_of c) ≡ true → is_true (assigned ws) c ≡ true
     unfolding conflicts
     not-against =
-        implied (isKnown ws ks (index_of c)) (isTrue (assigned ws) c)
-        (or-none (isKnown ws ks (index_of c) && not (isTrue (assigned ws) c)) (among (opposite c) heard) h).0
+        implied (is_known ws ks (index_of c)) (is_true (assigned ws) c)
+        (or-none (is_known ws ks (index_of c) && not (is_true (assigned ws) c)) (among (opposite c) heard) h).0
 
     pub not-opposite : among (opposite c) heard ≡ false
     unfolding conflicts
-    not-opposite = (or-none (isKnown ws ks (index_of c) && not (isTrue (assigned ws) c)) (among (opposite c) heard) h).1
+    not-opposite = (or-none (is_known ws ks (index_of c) && not (is_true (assigned ws) c)) (among (opposite c) heard) h).1
 
     same-as-heard : (d : ℕ) → among d heard ≡ true → index_of d ≡ index_of c → d ≡ c
     same-as-heard d a e = opposite-or-same c d e (λ q. never (sym a ∙ ap (λ (x : ℕ). among x heard) q ∙ not-opposite))
@@ -80,18 +80,18 @@ module _ (ws ks : List ℕ) where
         two x y (inr a) (inl b) e = sym (same-as-heard y b (sym e ∙ ap index_of (sym a)) ∙ a)
         two x y (inr a) (inr b) e = sym a ∙ b
 
-        one : (x : ℕ) → (among x heard ≡ true) ⊎ (c ≡ x) → isKnown ws ks (index_of x) ≡ true → isTrue (assigned ws) x ≡ true
+        one : (x : ℕ) → (among x heard ≡ true) ⊎ (c ≡ x) → is_known ws ks (index_of x) ≡ true → is_true (assigned ws) x ≡ true
         one x (inl a) k = g.fit x a k
-        one x (inr a) k = ap (isTrue (assigned ws)) (sym a) ∙ not-against (ap (λ (y : ℕ). isKnown ws ks (index_of y)) a ∙ k)
+        one x (inr a) k = ap (is_true (assigned ws)) (sym a) ∙ not-against (ap (λ (y : ℕ). is_known ws ks (index_of y)) a ∙ k)
 
   -- ---- a token's literals
 
-  any_none : (heard : List ℕ) (c : ℕ) (cs : List ℕ) → anyConflict ws ks heard (c ∷ cs) ≡ false
-      → (conflicts ws ks heard c ≡ false) × (anyConflict ws ks (heard ++ (c ∷ [])) cs ≡ false)
-  unfolding anyConflict
-  any_none heard c cs h = or-none (conflicts ws ks heard c) (anyConflict ws ks (heard ++ (c ∷ [])) cs) h
+  any_none : (heard : List ℕ) (c : ℕ) (cs : List ℕ) → any_conflict ws ks heard (c ∷ cs) ≡ false
+      → (conflicts ws ks heard c ≡ false) × (any_conflict ws ks (heard ++ (c ∷ [])) cs ≡ false)
+  unfolding any_conflict
+  any_none heard c cs h = or-none (conflicts ws ks heard c) (any_conflict ws ks (heard ++ (c ∷ [])) cs) h
 
-  agree-more : (cs heard : List ℕ) → anyConflict ws ks heard cs ≡ false → Agree heard → Agree (heard ++ cs)
+  agree-more : (cs heard : List ℕ) → any_conflict ws ks heard cs ≡ false → Agree heard → Agree (heard ++ cs)
   agree-more [] heard h g = rw (append-nil heard) g
   agree-more (c ∷ cs) heard h g =
       let q = any_none heard c cs h in
@@ -99,23 +99,23 @@ module _ (ws ks : List ℕ) where
 
   -- where they are true, they conflict with nothing in other rows either
   still-none :
-      (vs js : List ℕ) (cs heard : List ℕ) → anyConflict ws ks heard cs ≡ false
-      → ((c : ℕ) → among c cs ≡ true → isTrue (assigned vs) c ≡ true) →
-      anyConflict vs js heard cs ≡ false
-  unfolding anyConflict conflicts
+      (vs js : List ℕ) (cs heard : List ℕ) → any_conflict ws ks heard cs ≡ false
+      → ((c : ℕ) → among c cs ≡ true → is_true (assigned vs) c ≡ true) →
+      any_conflict vs js heard cs ≡ false
+  unfolding any_conflict conflicts
   still-none vs js [] heard h t = refl
   still-none vs js (c ∷ cs) heard h t =
       let q = any_none heard c cs h in
       let n = still-none vs js cs (heard ++ (c ∷ [])) q.1 (λ d a. t d (among_later d c cs a)) in
-      rw (t c (among-here c cs), not-opposite heard c q.0, n) (rw (and-false (isKnown vs js (index_of c))))
+      rw (t c (among-here c cs), not-opposite heard c q.0, n) (rw (and-false (is_known vs js (index_of c))))
 
 -- ---- token by token
 
 -- a token of a block that is accepted
 pub record Taken (f : Form) (n : ℕ) (ws ks heard : List ℕ) (s : List ℕ) (is : List Item) (cs : List ℕ) : Type 0 where
   pub said : List ℕ
-  pub says : literalsOf f n s ≡ accept said
-  pub none : anyConflict ws ks heard said ≡ false
+  pub says : literals_of f n s ≡ accept said
+  pub none : any_conflict ws ks heard said ≡ false
   pub rest : hear f n ws ks (heard ++ said) is ≡ accepted cs
 
 not-refused {ℓ} : {A : Type ℓ} {r : Refusal} {cs : List ℕ} → ◌≡◌ {A = Outcome (List ℕ)} (refused r) (accepted cs) → A
@@ -127,22 +127,22 @@ accepted-same xs ys e = cc
 module _ (f : Form) (n : ℕ) (ws ks heard : List ℕ) (p : ℕ) (s : List ℕ) (is : List Item) where
   taken : (cs : List ℕ) → hear f n ws ks heard (token p s ∷ is) ≡ accepted cs → Taken f n ws ks heard s is cs
   unfolding hear
-  taken cs e = pick (literalsOf f n s) refl e
+  taken cs e = pick (literals_of f n s) refl e
     where
-      clear : (ds : List ℕ) → literalsOf f n s ≡ accept ds → (b : Bool) → anyConflict ws ks heard ds ≡ b
+      clear : (ds : List ℕ) → literals_of f n s ≡ accept ds → (b : Bool) → any_conflict ws ks heard ds ≡ b
           → elim b [ true ↦ refused (refusal 22 p) | false ↦ hear f n ws ks (heard ++ ds) is ] ≡ accepted cs → Taken f n ws ks heard s is cs
       clear ds q true a h = not-refused h
       clear ds q false a h = record { said = ds; says = q; none = a; rest = h }
 
-      pick : (x : Checked (List ℕ)) → literalsOf f n s ≡ x
+      pick : (x : Checked (List ℕ)) → literals_of f n s ≡ x
           → elim x [
             | refuse k ↦ refused (refusal k p)
-            | accept ds ↦ elim (anyConflict ws ks heard ds) [ true ↦ refused (refusal 22 p) | false ↦ hear f n ws ks (heard ++ ds) is ]
+            | accept ds ↦ elim (any_conflict ws ks heard ds) [ true ↦ refused (refusal 22 p) | false ↦ hear f n ws ks (heard ++ ds) is ]
           ] ≡ accepted cs → Taken f n ws ks heard s is cs
       pick (refuse k) q h = not-refused h
-      pick (accept ds) q h = clear ds q (anyConflict ws ks heard ds) refl h
+      pick (accept ds) q h = clear ds q (any_conflict ws ks heard ds) refl h
 
-  takes : (ds : List ℕ) → literalsOf f n s ≡ accept ds → anyConflict ws ks heard ds ≡ false
+  takes : (ds : List ℕ) → literals_of f n s ≡ accept ds → any_conflict ws ks heard ds ≡ false
       → hear f n ws ks heard (token p s ∷ is) ≡ hear f n ws ks (heard ++ ds) is
   unfolding hear
   takes ds q a = rw (q, a, hear)
@@ -172,9 +172,9 @@ module _ (f : Form) (n : ℕ) (ws ks : List ℕ) where
 
   -- read again, where it is true and where tokens say the same
   pub heard-again :
-      (m : ℕ) (vs js : List ℕ) → ((s : List ℕ) → literalsOf f m s ≡ literalsOf f n s) →
+      (m : ℕ) (vs js : List ℕ) → ((s : List ℕ) → literals_of f m s ≡ literals_of f n s) →
       (is : List Item) (heard cs : List ℕ) → hear f n ws ks heard is ≡ accepted cs
-      → ((c : ℕ) → among c cs ≡ true → isTrue (assigned vs) c ≡ true) →
+      → ((c : ℕ) → among c cs ≡ true → is_true (assigned vs) c ≡ true) →
       hear f m vs js heard is ≡ accepted cs
   unfolding hear
   heard-again m vs js l [] heard cs e t = e
@@ -189,18 +189,18 @@ module _ (f : Form) (n : ℕ) (ws ks : List ℕ) where
 
 pub record Held (n room : ℕ) (x : Outcome (List ℕ)) (cs : List ℕ) : Type 0 where
   pub heard : x ≡ accepted cs
-  pub fits : wordsFor (lengthAfter n cs) ≤ room
+  pub fits : words_for (length_after n cs) ≤ room
 
 pub is_held : (n room : ℕ) (x : Outcome (List ℕ)) (cs : List ℕ) → held n room x ≡ accepted cs → Held n room x cs
 unfolding held
 is_held n room (refused r) cs e = not-refused e
-is_held n room (accepted ds) cs e = pick (leb (wordsFor (lengthAfter n ds)) room) refl e
+is_held n room (accepted ds) cs e = pick (leb (words_for (length_after n ds)) room) refl e
   where
-    pick : (b : Bool) → leb (wordsFor (lengthAfter n ds)) room ≡ b
-        → cond b (accepted ds) (refused (refusal 12 (wordsFor (lengthAfter n ds)))) ≡ accepted cs → Held n room (accepted ds) cs
-    pick true q h = let l = leb-true (wordsFor (lengthAfter n ds)) room q in record { heard = h; fits = rw (accepted-same ds cs h) at l }
+    pick : (b : Bool) → leb (words_for (length_after n ds)) room ≡ b
+        → cond b (accepted ds) (refused (refusal 12 (words_for (length_after n ds)))) ≡ accepted cs → Held n room (accepted ds) cs
+    pick true q h = let l = leb-true (words_for (length_after n ds)) room q in record { heard = h; fits = rw (accepted-same ds cs h) at l }
     pick false q h = not-refused h
 
-pub held-so : (n room : ℕ) (cs : List ℕ) → wordsFor (lengthAfter n cs) ≤ room → held n room (accepted cs) ≡ accepted cs
+pub held-so : (n room : ℕ) (cs : List ℕ) → words_for (length_after n cs) ≤ room → held n room (accepted cs) ≡ accepted cs
 unfolding held
-held-so n room cs h = rw (le-leb (wordsFor (lengthAfter n cs)) room h)
+held-so n room cs h = rw (le-leb (words_for (length_after n cs)) room h)

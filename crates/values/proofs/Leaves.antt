@@ -10,9 +10,9 @@ use borrow.Author.Tests.{lt-ltb}
 use lib.Dec.{ltb}
 use lib.ListN.{length}
 use Rattle.definitions.specs.Literal.{index_of, negated}
-use Rattle.definitions.specs.Meaning.{Assignment, isTrue, assigned, isKnown}
+use Rattle.definitions.specs.Meaning.{Assignment, is_true, assigned, is_known}
 use Rattle.definitions.specs.Table.{accepted}
-use Rattle.definitions.specs.Values.{among, form_of, items_of, literalsOf, hear, held, lengthAfter, wordsFor, valuing, valued, marked}
+use Rattle.definitions.specs.Values.{among, form_of, items_of, literals_of, hear, held, length_after, words_for, valuing, valued, marked}
 use Rattle.definitions.specs.declared.Form.{Form}
 use Rattle.definitions.specs.declared.Form.TheVariants.{SignedNumbers, XTokens}
 use Rattle.definitions.proofs.Truths.{both}
@@ -22,16 +22,16 @@ use Rattle.values.proofs.Agreeing.{Agree, all-agree, heard-again, Held, is_held,
 
 -- ---- a literal is true where its variable has the value it says
 
-true-where : (a : Assignment) (c : ℕ) → a (index_of c) ≡ not (negated c) → isTrue a c ≡ true
-unfolding isTrue
+true-where : (a : Assignment) (c : ℕ) → a (index_of c) ≡ not (negated c) → is_true a c ≡ true
+unfolding is_true
 true-where a c h = rw h (cases (negated c))
   where
     cases : (b : Bool) → cond b (not (not b)) (not b) ≡ true
     cases true = refl
     cases false = refl
 
-where-true : (a : Assignment) (c : ℕ) → isTrue a c ≡ true → not (negated c) ≡ a (index_of c)
-unfolding isTrue
+where-true : (a : Assignment) (c : ℕ) → is_true a c ≡ true → not (negated c) ≡ a (index_of c)
+unfolding is_true
 where-true a c h = cases (negated c) (a (index_of c)) h
   where
     cases : (n b : Bool) → cond n (not b) b ≡ true → not n ≡ b
@@ -40,7 +40,7 @@ where-true a c h = cases (negated c) (a (index_of c)) h
     cases false b e = sym e
 
 -- tokens of signed numbers and `x` tokens say the same at any length
-pub same-said : (f : Form) → (f ≡ SignedNumbers) ⊎ (f ≡ XTokens) → (m n : ℕ) (t : List ℕ) → literalsOf f m t ≡ literalsOf f n t
+pub same-said : (f : Form) → (f ≡ SignedNumbers) ⊎ (f ≡ XTokens) → (m n : ℕ) (t : List ℕ) → literals_of f m t ≡ literals_of f n t
 same-said f (inl h) m n t = rw h
 same-said f (inr h) m n t = rw h
 
@@ -78,28 +78,28 @@ module _ (s : List ℕ) (n : ℕ) (ws ks cs : List ℕ) (e : valuing s n ws ks �
       ap (λ (l : List ℕ). assigned l v) (marked-written cs ks)
       ∙ stays (λ (d : ℕ). true) v (assigned ks v) cs ks (within (length ks) (omega arith)) h refl
 
-  pub true-met : (c : ℕ) → among c cs ≡ true → isTrue (assigned (valued cs ws)) c ≡ true
+  pub true-met : (c : ℕ) → among c cs ≡ true → is_true (assigned (valued cs ws)) c ≡ true
   true-met c a = true-where (assigned (valued cs ws)) c (value-met c a)
 
-  pub known-met : (c : ℕ) → among c cs ≡ true → isKnown (valued cs ws) (marked cs ks) (index_of c) ≡ true
-  unfolding isKnown
+  pub known-met : (c : ℕ) → among c cs ≡ true → is_known (valued cs ws) (marked cs ks) (index_of c) ≡ true
+  unfolding is_known
   known-met c a =
       let l : index_of c < 64 * length (valued cs ws) = omega (arith, within (length ws) (omega arith) c a, length-valued cs ws) in
       rw (lt-ltb (index_of c) (64 * length (valued cs ws)) l) (mark-met c a)
 
   -- ---- a variable that was known
-  module _ (v : ℕ) (h : isKnown ws ks v ≡ true) where
+  module _ (v : ℕ) (h : is_known ws ks v ≡ true) where
     was-known : (ltb v (64 * length ws) ≡ true) × (assigned ks v ≡ true)
-    unfolding isKnown
+    unfolding is_known
     was-known = both (ltb v (64 * length ws)) (assigned ks v) h
 
-    pub known_kept : isKnown (valued cs ws) (marked cs ks) v ≡ true
-    unfolding isKnown
+    pub known_kept : is_known (valued cs ws) (marked cs ks) v ≡ true
+    unfolding is_known
     known_kept = rw (length-valued cs ws, was-known.0) (mark-stays v (λ c a q. sym was-known.1) ∙ was-known.1)
 
     pub value-kept : assigned (valued cs ws) v ≡ assigned ws v
     value-kept =
-        value_stays v (λ c a q. where-true (assigned ws) c (agreed.fit c a (ap (isKnown ws ks) q ∙ h)) ∙ ap (assigned ws) q)
+        value_stays v (λ c a q. where-true (assigned ws) c (agreed.fit c a (ap (is_known ws ks) q ∙ h)) ∙ ap (assigned ws) q)
 
   -- ---- read again
   pub values-again : valued cs (valued cs ws) ≡ valued cs ws
@@ -108,8 +108,8 @@ module _ (s : List ℕ) (n : ℕ) (ws ks cs : List ℕ) (e : valuing s n ws ks �
   pub marks-again : marked cs (marked cs ks) ≡ marked cs ks
   marks-again = marked-written cs (marked cs ks) ∙ written-again (λ (c : ℕ). true) cs (marked cs ks) mark-met
 
-  module _ (m : ℕ) (j : m ≡ lengthAfter n cs) where
-    fits-again : wordsFor (lengthAfter m cs) ≤ min (length (valued cs ws)) (length (marked cs ks))
+  module _ (m : ℕ) (j : m ≡ length_after n cs) where
+    fits-again : words_for (length_after m cs) ≤ min (length (valued cs ws)) (length (marked cs ks))
     fits-again = rw (j, length-again n cs, length-valued cs ws, length_marked cs ks) block_held.fits
 
     pub valuing-again : (form_of s ≡ SignedNumbers) ⊎ (form_of s ≡ XTokens) → valuing s m (valued cs ws) (marked cs ks) ≡ accepted cs

@@ -12,8 +12,8 @@ use lib.Dec.{eqb, leb}
 use lib.ListN.{length, get_or, take, drop, drop_of_length-le}
 use lib.Seq.{drop-cons, take_all, length-take-le}
 use Rattle.definitions.specs.Literal.{code_of, index_of, opposite}
-use Rattle.definitions.specs.Meaning.{isTrue, assigned, isKnown}
-use Rattle.definitions.specs.Values.{zeroDigit, among, appended, conflicts, anyConflict, valued, marked}
+use Rattle.definitions.specs.Meaning.{is_true, assigned, is_known}
+use Rattle.definitions.specs.Values.{zero_digit, among, appended, conflicts, any_conflict, valued, marked}
 use Rattle.heard.proofs.Split.{opposite-index}
 use Rattle.bits.proofs.JoinedLiterals.{valued-append, marked_append, length-valued, length_marked}
 use Rattle.laws.proofs.ReadRows.{index-of-code}
@@ -49,7 +49,7 @@ module _ (ws ks : List ℕ) (n : ℕ) (s : List ℕ) where
         (ap length p.values ∙ length-valued (appended n (take i s)) ws, ap length p.known ∙ length_marked (appended n (take i s)) ks)
 
     pub appended-more :
-        i < length s → (c : ℕ) → c ≡ code_of (eqb (get_or s i 0) zeroDigit) (n + i) →
+        i < length s → (c : ℕ) → c ≡ code_of (eqb (get_or s i 0) zero_digit) (n + i) →
         (ws'' ks'' : List ℕ) → ws'' ≡ valued (c ∷ []) ws' → ks'' ≡ marked (c ∷ []) ks' →
         Appended ws ks n s ws'' ks'' (i + 1)
     appended-more h c e ws'' ks'' f g =
@@ -67,47 +67,47 @@ pub among-appended : (n : ℕ) (s : List ℕ) (c : ℕ) → n + length s ≤ ind
 unfolding among appended
 among-appended n [] c h = refl
 among-appended n (b ∷ s) c h =
-    let x = code_of (eqb b zeroDigit) n in
-    let e : eqb x c ≡ false = ne_eqb x c (λ f. omega (arith, index-of-code (eqb b zeroDigit) n, ap index_of f)) in
+    let x = code_of (eqb b zero_digit) n in
+    let e : eqb x c ≡ false = ne_eqb x c (λ f. omega (arith, index-of-code (eqb b zero_digit) n, ap index_of f)) in
     ap (λ (t : Bool). t || among c (appended (n + 1) s)) e ∙ among-appended (n + 1) s c (omega arith)
 
 -- the variable of the literal c is known with another value
 abbrev pub otherwise : List ℕ → List ℕ → ℕ → Bool
-otherwise ws ks c = isKnown ws ks (index_of c) && not (isTrue (assigned ws) c)
+otherwise ws ks c = is_known ws ks (index_of c) && not (is_true (assigned ws) c)
 
 module _ (ws ks heard : List ℕ) (c : ℕ) (cs : List ℕ) where
-  conflict-found : otherwise ws ks c ≡ true → true ≡ anyConflict ws ks heard (c ∷ cs)
-  unfolding anyConflict conflicts
+  conflict-found : otherwise ws ks c ≡ true → true ≡ any_conflict ws ks heard (c ∷ cs)
+  unfolding any_conflict conflicts
   conflict-found e = rw e
 
   conflict-passed : otherwise ws ks c ≡ false → among (opposite c) heard ≡ false
-      → anyConflict ws ks heard (c ∷ cs) ≡ anyConflict ws ks (heard ++ (c ∷ [])) cs
-  unfolding anyConflict conflicts
+      → any_conflict ws ks heard (c ∷ cs) ≡ any_conflict ws ks (heard ++ (c ∷ [])) cs
+  unfolding any_conflict conflicts
   conflict-passed e f = rw (e, f)
 
 -- the first i digits conflict with nothing
 pub record Clear (ws ks : List ℕ) (n : ℕ) (s : List ℕ) (i : ℕ) : Type 0 where
   pub within : i ≤ length s
-  pub left : anyConflict ws ks [] (appended n s) ≡ anyConflict ws ks (appended n (take i s)) (appended (n + i) (drop i s))
+  pub left : any_conflict ws ks [] (appended n s) ≡ any_conflict ws ks (appended n (take i s)) (appended (n + i) (drop i s))
 
 module _ (ws ks : List ℕ) (n : ℕ) (s : List ℕ) where
   pub clear_none : Clear ws ks n s 0
   unfolding appended
-  clear_none = record { within = omega arith; left = ap (λ (m : ℕ). anyConflict ws ks [] (appended m s)) (omega arith) }
+  clear_none = record { within = omega arith; left = ap (λ (m : ℕ). any_conflict ws ks [] (appended m s)) (omega arith) }
 
-  pub clear-all : (i : ℕ) → Clear ws ks n s i → length s ≤ i → false ≡ anyConflict ws ks [] (appended n s)
-  unfolding appended anyConflict
+  pub clear-all : (i : ℕ) → Clear ws ks n s i → length s ≤ i → false ≡ any_conflict ws ks [] (appended n s)
+  unfolding appended any_conflict
   clear-all i p h =
-      sym (p.left ∙ ap (λ (l : List ℕ). anyConflict ws ks (appended n (take i s)) (appended (n + i) l)) (drop_of_length-le s h))
+      sym (p.left ∙ ap (λ (l : List ℕ). any_conflict ws ks (appended n (take i s)) (appended (n + i) l)) (drop_of_length-le s h))
 
-  module _ (i : ℕ) (p : Clear ws ks n s i) (h : i < length s) (c : ℕ) (e : c ≡ code_of (eqb (get_or s i 0) zeroDigit) (n + i)) where
-    next : anyConflict ws ks [] (appended n s) ≡ anyConflict ws ks (appended n (take i s)) (c ∷ appended (n + i + 1) (drop (suc i) s))
+  module _ (i : ℕ) (p : Clear ws ks n s i) (h : i < length s) (c : ℕ) (e : c ≡ code_of (eqb (get_or s i 0) zero_digit) (n + i)) where
+    next : any_conflict ws ks [] (appended n s) ≡ any_conflict ws ks (appended n (take i s)) (c ∷ appended (n + i + 1) (drop (suc i) s))
     unfolding appended
     next =
-        p.left ∙ ap (λ (l : List ℕ). anyConflict ws ks (appended n (take i s)) (appended (n + i) l)) (drop-cons s i 0 h)
-        ∙ ap (λ (x : ℕ). anyConflict ws ks (appended n (take i s)) (x ∷ appended (n + i + 1) (drop (suc i) s))) (sym e)
+        p.left ∙ ap (λ (l : List ℕ). any_conflict ws ks (appended n (take i s)) (appended (n + i) l)) (drop-cons s i 0 h)
+        ∙ ap (λ (x : ℕ). any_conflict ws ks (appended n (take i s)) (x ∷ appended (n + i + 1) (drop (suc i) s))) (sym e)
 
-    pub clear-found : (r : Bool) → r ≡ otherwise ws ks c → r ≡ true → true ≡ anyConflict ws ks [] (appended n s)
+    pub clear-found : (r : Bool) → r ≡ otherwise ws ks c → r ≡ true → true ≡ any_conflict ws ks [] (appended n s)
     clear-found r o t =
         let f = sym o ∙ t in
         conflict-found ws ks (appended n (take i s)) c (appended (n + i + 1) (drop (suc i) s)) f ∙ sym next
@@ -117,7 +117,7 @@ module _ (ws ks : List ℕ) (n : ℕ) (s : List ℕ) where
 
     none-opposite : among (opposite c) (appended n (take i s)) ≡ false
     none-opposite =
-        let b = eqb (get_or s i 0) zeroDigit in
+        let b = eqb (get_or s i 0) zero_digit in
         among-appended n (take i s) (opposite c)
         (omega (arith, opposite-index c, ap index_of e, index-of-code b (n + i), length-take-le i s p.within))
 
@@ -125,12 +125,12 @@ module _ (ws ks : List ℕ) (n : ℕ) (s : List ℕ) where
     clear-more r o t =
         let f = sym o ∙ t in
         let l = appended (n + i + 1) (drop (suc i) s) in
-        let q : anyConflict ws ks (appended n (take i s)) (c ∷ l) ≡ anyConflict ws ks (appended n (take i s) ++ (c ∷ [])) l =
+        let q : any_conflict ws ks (appended n (take i s)) (c ∷ l) ≡ any_conflict ws ks (appended n (take i s) ++ (c ∷ [])) l =
         conflict-passed ws ks (appended n (take i s)) c l f none-opposite in
         let r : l ≡ appended (n + (i + 1)) (drop (i + 1) s) = rw (add-one i) (ap (λ (m : ℕ). appended m (drop (suc i) s)) (omega arith)) in
         record {
           within = omega arith;
           left =
-              next ∙ q ∙ ap (λ (x : List ℕ). anyConflict ws ks x l) (sym heard-next)
-              ∙ ap (anyConflict ws ks (appended n (take (i + 1) s))) r;
+              next ∙ q ∙ ap (λ (x : List ℕ). any_conflict ws ks x l) (sym heard-next)
+              ∙ ap (any_conflict ws ks (appended n (take (i + 1) s))) r;
         }

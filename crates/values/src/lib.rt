@@ -3,26 +3,26 @@
 mod string;
 
 ghost use Rattle.std.specs.Prelude.{◌≡◌, ◌<◌, min, leb, length};
-ghost use Rattle.definitions.specs.Answers.{saidLength};
+ghost use Rattle.definitions.specs.Answers.{said_length};
 ghost use Rattle.definitions.specs.Refusal.{refusal};
 ghost use Rattle.definitions.specs.Table.{refused};
-ghost use Rattle.definitions.specs.Values.{form_of, wordsFor};
+ghost use Rattle.definitions.specs.Values.{form_of, words_for};
 ghost use Rattle.definitions.specs.declared.Form.TheVariants.{ZerosAndOnes};
-ghost use Rattle.tokens.specs.Said.{formBy};
+ghost use Rattle.tokens.specs.Said.{form_by};
 ghost use Rattle.values.specs.Reads.{ReadsValues};
 
 use definitions::{Form, Length, Refusal};
 use string::Checked;
 
 fn refused(number: u8, place: u64) -> Length
-    ensures { saidLength result ≡ refused (refusal number place) }
+    ensures { said_length result ≡ refused (refusal number place) }
 {
     Length::Refused(Refusal { number, place })
 }
 
 // The words that a length needs.
 fn words_for(length: u64) -> u64
-    ensures { result ≡ wordsFor length }
+    ensures { result ≡ words_for length }
 {
     let whole = length / 64;
     if length % 64 == 0 { whole } else { whole + 1 }
@@ -47,7 +47,7 @@ fn read_literals(
     known: &mut [u64],
 ) -> Length
     requires some { 0 < length block.now }
-    requires form { form_of block.now ≡ formBy named }
+    requires form { form_of block.now ≡ form_by named }
     ensures { ReadsValues block.now kept values.old known.old result values.new known.new }
 {
     match heard::hear(block, named, kept, values, known) {

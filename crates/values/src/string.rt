@@ -1,12 +1,12 @@
 // One string of zeros and ones (02, A1), which appends at the length. Its variables are all different, so that only the
 // known words can conflict with it. Assumes nothing.
 ghost use Rattle.std.specs.Prelude.{◌≡◌, [], ◌+◌, ◌≤◌, ◌<◌, leb, eqb, length};
-ghost use Rattle.definitions.specs.Limits.{indexLimit};
+ghost use Rattle.definitions.specs.Limits.{index_limit};
 ghost use Rattle.definitions.specs.Literal.{code_of};
-ghost use Rattle.definitions.specs.Values.{front, itemsFrom, form_of, hear, appended, anyConflict, valued, marked};
+ghost use Rattle.definitions.specs.Values.{front, items_from, form_of, hear, appended, any_conflict, valued, marked};
 ghost use Rattle.definitions.specs.declared.Form.TheVariants.{ZerosAndOnes};
-ghost use Rattle.items.specs.Items.{soughtOf, end_at, onFrom};
-ghost use Rattle.values.specs.Strings.{behindOf, checkedAt, saidChecked, Fitting};
+ghost use Rattle.items.specs.Items.{sought_of, end_at, on_from};
+ghost use Rattle.values.specs.Strings.{behind_of, checked_at, said_checked, Fitting};
 
 use bits::{is_otherwise, make_true};
 use items::{NextItem, next_item};
@@ -25,7 +25,7 @@ const VARIABLES: u64 = 1_073_741_824;
 
 // Not 5: the last index is within the limit.
 pub(crate) fn fits(kept: u64, count: usize) -> bool
-    ensures { result ≡ leb (kept + count) (indexLimit + 1) }
+    ensures { result ≡ leb (kept + count) (index_limit + 1) }
 {
     if kept > VARIABLES {
         return false;
@@ -35,7 +35,7 @@ pub(crate) fn fits(kept: u64, count: usize) -> bool
 
 // The literal that a digit of the string makes true: `0` the negated one.
 fn literal_at(variable: u64, digit: u8) -> Lit
-    requires { variable ≤ indexLimit }
+    requires { variable ≤ index_limit }
     ensures { result.0 ≡ code_of (eqb digit 48) variable }
 {
     match Var::of_index(variable as u32).lit(digit == b'0') {
@@ -45,8 +45,8 @@ fn literal_at(variable: u64, digit: u8) -> Lit
 }
 
 pub(crate) fn string_conflicts(text: &[u8], kept: u64, values: &[u64], known: &[u64]) -> bool
-    requires { kept + length text.now ≤ indexLimit + 1 }
-    ensures { result ≡ anyConflict values.now known.now [] (appended kept text.now) }
+    requires { kept + length text.now ≤ index_limit + 1 }
+    ensures { result ≡ any_conflict values.now known.now [] (appended kept text.now) }
 {
     let mut i: usize = 0;
     while i < text.len() {
@@ -61,7 +61,7 @@ pub(crate) fn string_conflicts(text: &[u8], kept: u64, values: &[u64], known: &[
 }
 
 pub(crate) fn append(text: &[u8], kept: u64, values: &mut [u64], known: &mut [u64])
-    requires { kept + length text.now ≤ indexLimit + 1 }
+    requires { kept + length text.now ≤ index_limit + 1 }
     ensures values { values.new ≡ valued (appended kept text.now) values.old }
     ensures known { known.new ≡ marked (appended kept text.now) known.old }
 {
@@ -77,7 +77,7 @@ pub(crate) fn append(text: &[u8], kept: u64, values: &mut [u64], known: &mut [u6
 // What stands behind the string: nothing, or a line without `v`. Another token does not, since the block has one string
 // only.
 fn check_behind(block: &[u8], place: usize, end: usize) -> Checked
-    ensures { result ≡ behindOf place end (soughtOf (onFrom block.now end)) }
+    ensures { result ≡ behind_of place end (sought_of (on_from block.now end)) }
 {
     match next_item(block, end, false) {
         NextItem::End => Checked::String { place, end },
@@ -106,7 +106,7 @@ fn check_at(
 ) -> Checked
     requires within { place ≤ length block.now }
     requires ends { end ≡ end_at block.now place }
-    ensures { result ≡ checkedAt kept values.now known.now block.now place }
+    ensures { result ≡ checked_at kept values.now known.now block.now place }
 {
     if !fits(kept, end - place) {
         return Checked::Refused { number: 5, place };
@@ -120,7 +120,7 @@ fn check_at(
 pub(crate) fn check(block: &[u8], kept: u64, values: &[u64], known: &[u64]) -> Checked
     requires some { 0 < length block.now }
     requires form { form_of block.now ≡ ZerosAndOnes }
-    ensures result_value { saidChecked kept block.now result ≡ hear ZerosAndOnes kept values.now known.now [] (itemsFrom front 0 block.now) }
+    ensures result_value { said_checked kept block.now result ≡ hear ZerosAndOnes kept values.now known.now [] (items_from front 0 block.now) }
     ensures fits { Fitting result kept (length block.now) }
 {
     match next_item(block, 0, true) {

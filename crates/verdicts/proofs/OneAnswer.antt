@@ -5,7 +5,7 @@ use native.Mathlib.Omega.{arith}
 use Rattle.definitions.specs.declared.Refusal.{Refusal}
 use Rattle.definitions.specs.Table.{Outcome, refused}
 use Rattle.definitions.specs.Evaluate.{Evaluated as Found}
-use Rattle.verdicts.specs.Said.{saidEvaluated}
+use Rattle.verdicts.specs.Said.{said_evaluated}
 use Rattle.verdicts.specs.declared.Evaluated.{Evaluated}
 use Rattle.verdicts.specs.declared.Evaluated.TheVariants.{Refused, Constraint, Objective}
 use Rattle.verdicts.proofs.verdict.Reads as verdict
@@ -14,7 +14,7 @@ same-refusal : (x y : Refusal) → ◌≡◌ {A = Outcome Found} (refused x) (re
 same-refusal x y e = cc
 
 -- an answer is known by what it says
-pub said-evaluated : (r r' : Evaluated) → saidEvaluated r ≡ saidEvaluated r' → r ≡ r'
+pub said-evaluated : (r r' : Evaluated) → said_evaluated r ≡ said_evaluated r' → r ≡ r'
 said-evaluated (Refused x) (Refused y) e = ap Refused (same-refusal x y e)
 said-evaluated (Refused x) (Constraint s h o) e = let z : ◌≡◌ {A = ℕ} 0 1 = cc in absurd (omega arith)
 said-evaluated (Refused x) (Objective v o) e = let z : ◌≡◌ {A = ℕ} 0 1 = cc in absurd (omega arith)

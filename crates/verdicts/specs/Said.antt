@@ -4,7 +4,7 @@ use Rattle.definitions.specs.Evaluate.{Evaluated as Found, constraint, goal}
 use Rattle.verdicts.specs.declared.Evaluated.{Evaluated}
 use Rattle.verdicts.specs.declared.Evaluated.TheVariants.{Refused, Constraint, Objective}
 
-abbrev pub saidEvaluated : Evaluated → Outcome Found
-saidEvaluated (Refused r) = refused r
-saidEvaluated (Constraint sum holds ones) = accepted (constraint sum holds ones)
-saidEvaluated (Objective value ones) = accepted (goal value ones)
+abbrev pub said_evaluated : Evaluated → Outcome Found
+said_evaluated (Refused r) = refused r
+said_evaluated (Constraint sum holds ones) = accepted (constraint sum holds ones)
+said_evaluated (Objective value ones) = accepted (goal value ones)

@@ -1,9 +1,9 @@
 // What is answered for a row whose sum is known (01, "Normalising and evaluating"): whether a constraint holds, or an
 // objective's value. Assumes nothing.
 ghost use Rattle.std.specs.Prelude.{◌≡◌, ◌+ℤ◌};
-ghost use Rattle.definitions.specs.Evaluate.{onPlace};
-ghost use Rattle.verdicts.specs.Said.{saidEvaluated};
-ghost use Rattle.verdicts.specs.Verdicts.{valued, verdictOf};
+ghost use Rattle.definitions.specs.Evaluate.{on_place};
+ghost use Rattle.verdicts.specs.Said.{said_evaluated};
+ghost use Rattle.verdicts.specs.Verdicts.{valued, verdict_of};
 
 use definitions::{Kind, Refusal};
 
@@ -18,7 +18,7 @@ pub enum Evaluated {
 
 // "For an objective, the sum plus the bound column", or 8.
 fn objective(sum: i64, bound: i64, ones: u64, row: usize) -> Evaluated
-    ensures { saidEvaluated result ≡ onPlace row (valued (sum +ℤ bound) ones) }
+    ensures { said_evaluated result ≡ on_place row (valued (sum +ℤ bound) ones) }
 {
     if fits::sum_fits(sum, bound) {
         let value = sum + bound;
@@ -32,7 +32,7 @@ fn objective(sum: i64, bound: i64, ones: u64, row: usize) -> Evaluated
 
 // The place of a refusal is the row.
 pub fn verdict(kind: Kind, sum: i64, bound: i64, ones: u64, row: usize) -> Evaluated
-    ensures { saidEvaluated result ≡ onPlace row (verdictOf kind sum bound ones) }
+    ensures { said_evaluated result ≡ on_place row (verdict_of kind sum bound ones) }
 {
     match kind {
         Kind::AtLeast => Evaluated::Constraint {

@@ -2,14 +2,14 @@
 -- what it is lent.
 use mathlib.Core.Path.{◌≡◌, refl, sym, ◌∙◌}
 use Rattle.definitions.proofs.Truths.{never}
-use Rattle.walker.specs.Said.{saidStepped}
+use Rattle.walker.specs.Said.{said_stepped}
 use Rattle.walker.specs.declared.steps.Stepped.{Stepped}
 use Rattle.walker.specs.declared.steps.Stepped.TheVariants.{End, Refused, Line}
 use Rattle.walker.proofs.steps.step_at.Reads as step-at
 use Rattle.walker.proofs.steps.offset_after.Reads as offset-after
 
 -- an answer is known by what it says
-pub said-stepped : (r r' : Stepped) → saidStepped r ≡ saidStepped r' → r ≡ r'
+pub said-stepped : (r r' : Stepped) → said_stepped r ≡ said_stepped r' → r ≡ r'
 said-stepped End End e = refl
 said-stepped End (Refused j) e = never (cc)
 said-stepped End (Line y m) e = never (cc)

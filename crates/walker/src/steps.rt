@@ -1,8 +1,8 @@
 // One step on a file, at an offset: the statement there, checked. Nothing is kept between two steps but the offset.
 // Assumes nothing.
 ghost use Rattle.std.specs.Prelude.{◌≡◌};
-ghost use Rattle.definitions.specs.Stepping.{stepAt, offsetAfter};
-ghost use Rattle.walker.specs.Said.{saidStepped, briefStepped};
+ghost use Rattle.definitions.specs.Stepping.{step_at, offset_after};
+ghost use Rattle.walker.specs.Said.{said_stepped, brief_stepped};
 
 use definitions::{Entry, FILE_LIMIT, Options, Refusal};
 use statements::StatementRead;
@@ -18,7 +18,7 @@ pub enum Stepped {
 
 // "takes the rest of the file from where the last one stopped"; behind the file's end nothing is left.
 pub fn step_at(file: &[u8], options: Options, at: usize) -> Stepped
-    ensures { saidStepped result ≡ briefStepped (stepAt options file.now at) }
+    ensures { said_stepped result ≡ brief_stepped (step_at options file.now at) }
 {
     if file.len() > FILE_LIMIT {
         return Stepped::Refused(Refusal {
@@ -48,7 +48,7 @@ pub fn step_at(file: &[u8], options: Options, at: usize) -> Stepped
 
 // Where the next step is taken.
 pub fn offset_after(stepped: Stepped, at: usize) -> usize
-    ensures { result ≡ offsetAfter (saidStepped stepped) at }
+    ensures { result ≡ offset_after (said_stepped stepped) at }
 {
     match stepped {
         Stepped::End => at,

@@ -37,12 +37,12 @@ use denote.Struct.Steps.{spelt}
 use denote.Triple.Statement.{Contract}
 use denote.Triple.Spec.{triple_of}
 use denote.Triple.Clauses.{ensured, lasts}
-use Rattle.definitions.specs.Stepping.{offsetAfter}
+use Rattle.definitions.specs.Stepping.{offset_after}
 use Rattle.definitions.specs.declared.Options.{Options}
 use Rattle.definitions.specs.contracts.Options as O
 use Rattle.definitions.proofs.Options.TheLaws as O'
-use Rattle.walker.specs.Said.{saidStepped, briefStepped}
-use Rattle.held.specs.HeldWalker.{walkerAt}
+use Rattle.walker.specs.Said.{said_stepped, brief_stepped}
+use Rattle.held.specs.HeldWalker.{walker_at}
 use Rattle.held_steps.specs.WalkerSteps.{step_of, Nexts}
 use Rattle.held.specs.declared.Walker.{Walker}
 use Rattle.walker.specs.declared.steps.Stepped.{Stepped}
@@ -81,11 +81,11 @@ B κ = T.the_row (record { mir = named 1; lft = κ })
 
 -- the walker behind its next statement
 abbrev pub behind : Walker → Walker
-behind d = walkerAt d.file d.options (offsetAfter (step_of d) d.at)
+behind d = walker_at d.file d.options (offset_after (step_of d) d.at)
 
 -- r tells the walker's next statement
 abbrev pub Tells : Walker → Stepped → Type 0
-Tells d r = saidStepped r ≡ briefStepped (step_of d)
+Tells d r = said_stepped r ≡ brief_stepped (step_of d)
 
 -- what a walker with the machine value u owns, what a file's slice owns, and the local at l, with a walker
 abbrev pub Own : Lft → Walker → Val → Fml
@@ -133,15 +133,15 @@ module _ {M : Type 1} {𝓤 : Ura M} (𝓛 : Logic 𝓤) (mem : Memory → SProp
         frame ! $ done !
 
     new-said : (d : Walker)
-        → ent 𝓤 (ensured 𝓛 new.ended (new.clauses 𝓛 mem run) (κ, tt) (s, (p, tt)) tt d) (fact 𝓤 (d ≡ walkerAt s p 0))
-    new-said d = ex_e 𝓤 _ (λ ws. snd∗ 𝓤 (sem 𝓛 (lasts new.ended (κ, tt) (s, (p, tt)) ws)) (fact 𝓤 (d ≡ walkerAt s p 0)))
+        → ent 𝓤 (ensured 𝓛 new.ended (new.clauses 𝓛 mem run) (κ, tt) (s, (p, tt)) tt d) (fact 𝓤 (d ≡ walker_at s p 0))
+    new-said d = ex_e 𝓤 _ (λ ws. snd∗ 𝓤 (sem 𝓛 (lasts new.ended (κ, tt) (s, (p, tt)) ws)) (fact 𝓤 (d ≡ walker_at s p 0)))
 
-    pub gives-new : (u : Val) → ent 𝓤 ((New 𝓛 mem run).post to-new u) (H.⇛ (sep 𝓤 (A.lft κ q) (sem 𝓛 (Own κ (walkerAt s p 0) u))))
+    pub gives-new : (u : Val) → ent 𝓤 ((New 𝓛 mem run).post to-new u) (H.⇛ (sep 𝓤 (A.lft κ q) (sem 𝓛 (Own κ (walker_at s p 0) u))))
     gives-new u =
         qed 𝓛 (raw ((New 𝓛 mem run).post to-new u) ∷ []) ∵ updating ! $
         use1 𝓛 (later (some (λ (d : Walker). ((‵ (flft κ q) ⊛ ‵ ftrue) ⊛ ‵ (Own κ d u)) ⊛ raw
         (ensured 𝓛 new.ended (new.clauses 𝓛 mem run) (κ, tt) (s, (p, tt)) tt d)))) (id⊢ 𝓤 _) $ await ! tt $ pick ! (λ d.
-        split ! $ move ! (1 ∷ []) $ use1 𝓛 (raw (fact 𝓤 (d ≡ walkerAt s p 0))) (new-said d) $ heard ! (d ≡ walkerAt s p 0) (λ e.
+        split ! $ move ! (1 ∷ []) $ use1 𝓛 (raw (fact 𝓤 (d ≡ walker_at s p 0))) (new-said d) $ heard ! (d ≡ walker_at s p 0) (λ e.
         split ! $ rewrite ! 1 (λ (h : Walker). ‵ (Own κ h u)) e refl $ split ! $ at_once ! $ keep ! (0 ∷ 2 ∷ []) $ done !))
 
   -- ---- `moved`, `step` and `at`, on the walker d with the machine value u
@@ -158,19 +158,19 @@ module _ {M : Type 1} {𝓤 : Ura M} (𝓛 : Logic 𝓤) (mem : Memory → SProp
 
       moved-said : (d' : Walker)
           → ent 𝓤 (ensured 𝓛 moved.ended (moved.clauses 𝓛 mem run) (κ, tt) (d, (n, tt)) tt d')
-          (fact 𝓤 (d' ≡ walkerAt d.file d.options n))
+          (fact 𝓤 (d' ≡ walker_at d.file d.options n))
       moved-said d' =
-          ex_e 𝓤 _ (λ ws. snd∗ 𝓤 (sem 𝓛 (lasts moved.ended (κ, tt) (d, (n, tt)) ws)) (fact 𝓤 (d' ≡ walkerAt d.file d.options n)))
+          ex_e 𝓤 _ (λ ws. snd∗ 𝓤 (sem 𝓛 (lasts moved.ended (κ, tt) (d, (n, tt)) ws)) (fact 𝓤 (d' ≡ walker_at d.file d.options n)))
 
       pub gives_moved : (u' : Val)
           → ent 𝓤 ((Moved 𝓛 mem run).post to-moved u')
-          (H.⇛ (sep 𝓤 (A.lft κ q) (sem 𝓛 (Own κ (walkerAt d.file d.options n) u'))))
+          (H.⇛ (sep 𝓤 (A.lft κ q) (sem 𝓛 (Own κ (walker_at d.file d.options n) u'))))
       gives_moved u' =
           qed 𝓛 (raw ((Moved 𝓛 mem run).post to-moved u') ∷ []) ∵ updating ! $
           use1 𝓛 (later (some (λ (d' : Walker). ((‵ (flft κ q) ⊛ ‵ ftrue) ⊛ ‵ (Own κ d' u')) ⊛ raw
           (ensured 𝓛 moved.ended (moved.clauses 𝓛 mem run) (κ, tt) (d, (n, tt)) tt d')))) (id⊢ 𝓤 _) $ await ! tt $ pick ! (λ d'.
-          split ! $ move ! (1 ∷ []) $ use1 𝓛 (raw (fact 𝓤 (d' ≡ walkerAt d.file d.options n))) (moved-said d') $ heard !
-          (d' ≡ walkerAt d.file d.options n) (λ e.
+          split ! $ move ! (1 ∷ []) $ use1 𝓛 (raw (fact 𝓤 (d' ≡ walker_at d.file d.options n))) (moved-said d') $ heard !
+          (d' ≡ walker_at d.file d.options n) (λ e.
           split ! $ rewrite ! 1 (λ (h : Walker). ‵ (Own κ h u')) e refl $ split ! $ at_once ! $ keep ! (0 ∷ 2 ∷ []) $ done !))
 
     -- `step` and `at` ask the same

@@ -3,10 +3,10 @@
 // walk of its own, so there are three, and each does nothing but call; all else is covered.
 // tests/vectors/walker_stdout.py makes stdout. Assumes nothing but what libc says of itself.
 ghost use Rattle.std.specs.Prelude.{◌≡◌};
-ghost use Rattle.definitions.specs.Stepping.{stepAt, termsAtStep};
+ghost use Rattle.definitions.specs.Stepping.{step_at, terms_at_step};
 ghost use Rattle.fills.specs.FillsTerms.{FillsTerms};
-ghost use Rattle.walker.specs.Said.{saidStepped, briefStepped};
-ghost use Rattle.walker_run.specs.Stands.{standsAfter};
+ghost use Rattle.walker.specs.Said.{said_stepped, brief_stepped};
+ghost use Rattle.walker_run.specs.Stands.{stands_after};
 
 use definitions::{Entry, Length, Options, Refusal};
 use walker::Stepped;
@@ -22,7 +22,7 @@ struct Walked {
 }
 
 fn walk_two(file: &[u8], options: Options) -> Walked
-    ensures { (saidStepped result.first ≡ briefStepped (stepAt options file.now 0)) × (saidStepped result.second ≡ briefStepped (stepAt options file.now (standsAfter options file.now 1))) × (result.at ≡ standsAfter options file.now 2) }
+    ensures { (said_stepped result.first ≡ brief_stepped (step_at options file.now 0)) × (said_stepped result.second ≡ brief_stepped (step_at options file.now (stands_after options file.now 1))) × (result.at ≡ stands_after options file.now 2) }
 {
     let mut w = held::new(file, options);
     let first = held_steps::next(&mut w);
@@ -33,7 +33,7 @@ fn walk_two(file: &[u8], options: Options) -> Walked
 
 // The statement at an offset; the walker is moved there, and stays.
 fn look_ahead(file: &[u8], options: Options, at: usize) -> Stepped
-    ensures { saidStepped result ≡ briefStepped (stepAt options file.now at) }
+    ensures { said_stepped result ≡ brief_stepped (step_at options file.now at) }
 {
     held_steps::step(held::moved(held::new(file, options), at))
 }
@@ -46,7 +46,7 @@ fn terms_at(
     weights: &mut [i64],
     literals: &mut [u32],
 ) -> Length
-    ensures { FillsTerms (termsAtStep options file.now at weights.old literals.old) weights.old literals.old result weights.new literals.new }
+    ensures { FillsTerms (terms_at_step options file.now at weights.old literals.old) weights.old literals.old result weights.new literals.new }
 {
     let w = held::moved(held::new(file, options), at);
     held_fills::fill(w, weights, literals)

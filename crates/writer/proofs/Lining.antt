@@ -7,32 +7,32 @@ use native.Mathlib.Omega.{arith}
 use lib.ListN.{length, drop, length-append}
 use Rattle.definitions.specs.Lists.{over, joined}
 use Rattle.definitions.specs.Refusal.{Checked, refuse, accept}
-use Rattle.definitions.specs.Table.{Table, rowRoom, Outcome, refused, accepted, entries, onRow, rowByRow}
+use Rattle.definitions.specs.Table.{Table, row_room, Outcome, refused, accepted, entries, on_row, row_by_row}
 use Rattle.definitions.specs.declared.Entry.{Entry}
-use Rattle.definitions.specs.Write.{Item, itemText, writtenIn}
+use Rattle.definitions.specs.Write.{Item, item_text, written_in}
 use Rattle.definitions.specs.declared.Mode.{Mode}
 use Rattle.laws.proofs.Puts.{placed, Puts, puts-length, placed-append, puts_none}
 use Rattle.columns.proofs.EntryLaws.{entry_at, entries_from, entries-end}
-use Rattle.printed.specs.Rows.{onColumns}
+use Rattle.printed.specs.Rows.{on_columns}
 use Rattle.printed.proofs.OneEntry.{written_on}
 use Rattle.measures.specs.RowsMeasured.{lines_of}
-use Rattle.writer.specs.Entries.{textFrom, entryText, EntryReady}
-use Rattle.writer.specs.SecondWalk.{linesBy, linesFor, LinesReady}
+use Rattle.writer.specs.Entries.{text_from, entry_text, EntryReady}
+use Rattle.writer.specs.SecondWalk.{lines_by, lines_for, LinesReady}
 
 -- what stands at the front of rows that are all accepted
 record Front (i : ℕ) (f : Entry → Checked Item) (e : Entry) (es : List Entry) (is : List Item) : Type 0 where
   item : Item
   others : List Item
   accepts : f e ≡ accept item
-  after : rowByRow f (i + 1) es ≡ accepted others
+  after : row_by_row f (i + 1) es ≡ accepted others
   together : is ≡ item ∷ others
 
-front : (i : ℕ) (f : Entry → Checked Item) (e : Entry) (es : List Entry) (is : List Item) → rowByRow f i (e ∷ es) ≡ accepted is
+front : (i : ℕ) (f : Entry → Checked Item) (e : Entry) (es : List Entry) (is : List Item) → row_by_row f i (e ∷ es) ≡ accepted is
     → Front i f e es is
-unfolding rowByRow
-front i f e es is = by (f e) (rowByRow f (i + 1) es) refl refl
+unfolding row_by_row
+front i f e es is = by (f e) (row_by_row f (i + 1) es) refl refl
   where
-    by : (c : Checked Item) (os : Outcome (List Item)) → f e ≡ c → rowByRow f (i + 1) es ≡ os → onRow i c os ≡ accepted is
+    by : (c : Checked Item) (os : Outcome (List Item)) → f e ≡ c → row_by_row f (i + 1) es ≡ os → on_row i c os ≡ accepted is
         → Front i f e es is
     by (refuse n) os p q r = let z : ◌≡◌ {A = ℕ} 0 1 = cc in absurd (omega arith)
     by (accept x) (refused y) p q r = let z : ◌≡◌ {A = ℕ} 0 1 = cc in absurd (omega arith)
@@ -44,16 +44,16 @@ ready-as r e = rw e r
 
 -- i rows are written
 pub record Lining (m : Mode) (t : Table) (text o : List ℕ) (i at : ℕ) (out : List ℕ) : Type 0 where
-  pub within : i ≤ rowRoom t
+  pub within : i ≤ row_room t
   pub left : List Item
-  pub are : rowByRow (writtenIn m t text) i (drop i (entries t)) ≡ accepted left
-  pub place : at + length (lines_of m left) ≡ length (linesFor m t text)
-  pub so_far : placed (lines_of m left) at out ≡ placed (linesFor m t text) 0 o
+  pub are : row_by_row (written_in m t text) i (drop i (entries t)) ≡ accepted left
+  pub place : at + length (lines_of m left) ≡ length (lines_for m t text)
+  pub so_far : placed (lines_of m left) at out ≡ placed (lines_for m t text) 0 o
   pub long : length out ≡ length o
 
 module _ {m : Mode} {t : Table} {text : List ℕ} {o : List ℕ} (r : LinesReady m t text o) where
-  items-are : lines_of m r.items ≡ linesFor m t text
-  items-are = ap (linesBy m) (sym r.are)
+  items-are : lines_of m r.items ≡ lines_for m t text
+  items-are = ap (lines_by m) (sym r.are)
 
   pub lining-none : Lining m t text o 0 0 o
   lining-none =
@@ -67,13 +67,13 @@ module _ {m : Mode} {t : Table} {text : List ℕ} {o : List ℕ} (r : LinesReady
       }
 
   module _ {i at : ℕ} {out : List ℕ} (g : Lining m t text o i at out) where
-    module _ (h : i < rowRoom t) where
-      here : Front i (writtenIn m t text) (entry_at t i) (drop (i + 1) (entries t)) g.left
+    module _ (h : i < row_room t) where
+      here : Front i (written_in m t text) (entry_at t i) (drop (i + 1) (entries t)) g.left
       here =
-          front i (writtenIn m t text) (entry_at t i) (drop (i + 1) (entries t)) g.left (rw (entries_from t i h) at g.are)
+          front i (written_in m t text) (entry_at t i) (drop (i + 1) (entries t)) g.left (rw (entries_from t i h) at g.are)
 
       abbrev text-here : List ℕ
-      text-here = itemText m here.item
+      text-here = item_text m here.item
 
       split : lines_of m g.left ≡ text-here ++ lines_of m here.others
       unfolding joined
@@ -91,17 +91,17 @@ module _ {m : Mode} {t : Table} {text : List ℕ} {o : List ℕ} (r : LinesReady
             length-append text-here (lines_of m here.others),
           )
 
-      on-columns : writtenIn m (onColumns t.weights t.literals) text (entry_at t i) ≡ accept here.item
+      on-columns : written_in m (on_columns t.weights t.literals) text (entry_at t i) ≡ accept here.item
       on-columns = sym (written_on m t text (entry_at t i)) ∙ here.accepts
 
-      pub lining-ready : EntryReady m (onColumns t.weights t.literals) text (entry_at t i) at out
+      pub lining-ready : EntryReady m (on_columns t.weights t.literals) text (entry_at t i) at out
       lining-ready = record { item = here.item; is = on-columns; room = room-here }
 
       pub lining-more : {at' : ℕ} {out' : List ℕ}
-          → Puts (entryText m (onColumns t.weights t.literals) text (entry_at t i)) at out at' out'
+          → Puts (entry_text m (on_columns t.weights t.literals) text (entry_at t i)) at out at' out'
           → Lining m t text o (i + 1) at' out'
       lining-more {at'} {out'} q =
-          let p : Puts text-here at out at' out' = rw (ap (textFrom m) on-columns) at q in
+          let p : Puts text-here at out at' out' = rw (ap (text_from m) on-columns) at q in
           record {
             within = omega arith;
             left = here.others;
@@ -112,8 +112,8 @@ module _ {m : Mode} {t : Table} {text : List ℕ} {o : List ℕ} (r : LinesReady
             long = puts-length p room-here ∙ g.long;
           }
 
-    pub lining-all : rowRoom t ≤ i → out ≡ over (linesFor m t text) o
-    unfolding rowByRow joined
+    pub lining-all : row_room t ≤ i → out ≡ over (lines_for m t text) o
+    unfolding row_by_row joined
     lining-all h =
         let none : g.left ≡ [] = empty g.left (rw (entries-end t i h) at g.are) in
         (puts_none at out).after ∙ ap (λ (l : List Item). placed (lines_of m l) at out) (sym none) ∙ g.so_far ∙ rw zero-add

@@ -4,21 +4,21 @@ use Rattle.definitions.specs.Bytes.{bytes}
 use Rattle.definitions.specs.Refusal.{Checked, refuse, accept}
 use Rattle.definitions.specs.Table.{Table}
 use Rattle.definitions.specs.declared.Entry.{Entry}
-use Rattle.definitions.specs.Write.{Item, itemText, writtenIn}
+use Rattle.definitions.specs.Write.{Item, item_text, written_in}
 use Rattle.definitions.specs.declared.Mode.{Mode}
 
 -- the line of a comment, piece by piece
-abbrev pub remarkPieces : List ℕ → List (List ℕ)
-remarkPieces t = bytes "* " ∷ t ∷ bytes "\n" ∷ []
+abbrev pub remark_pieces : List ℕ → List (List ℕ)
+remark_pieces t = bytes "* " ∷ t ∷ bytes "\n" ∷ []
 
-abbrev pub textFrom : Mode → Checked Item → List ℕ
-textFrom m (refuse n) = []
-textFrom m (accept i) = itemText m i
+abbrev pub text_from : Mode → Checked Item → List ℕ
+text_from m (refuse n) = []
+text_from m (accept i) = item_text m i
 
-abbrev pub entryText : Mode → Table → List ℕ → Entry → List ℕ
-entryText m t text e = textFrom m (writtenIn m t text e)
+abbrev pub entry_text : Mode → Table → List ℕ → Entry → List ℕ
+entry_text m t text e = text_from m (written_in m t text e)
 
 pub record EntryReady (m : Mode) (t : Table) (text : List ℕ) (e : Entry) (at : ℕ) (o : List ℕ) : Type 0 where
   pub item : Item
-  pub is : writtenIn m t text e ≡ accept item
-  pub room : at + length (itemText m item) ≤ length o
+  pub is : written_in m t text e ≡ accept item
+  pub room : at + length (item_text m item) ≤ length o

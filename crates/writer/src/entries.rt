@@ -1,8 +1,8 @@
 // The line of one row of the table, comments too. Assumes nothing.
 ghost use Rattle.laws.proofs.Puts.{Puts};
 ghost use Rattle.puts.specs.SeveralPuts.{LandsEach};
-ghost use Rattle.printed.specs.Rows.{entry_of, onColumns};
-ghost use Rattle.writer.specs.Entries.{remarkPieces, entryText, EntryReady};
+ghost use Rattle.printed.specs.Rows.{entry_of, on_columns};
+ghost use Rattle.writer.specs.Entries.{remark_pieces, entry_text, EntryReady};
 
 use definitions::Mode;
 use lines::put_row;
@@ -11,7 +11,7 @@ use puts::put_text;
 
 // The text behind `* `, and the line's end.
 fn put_remark(text: &[u8], out: &mut [u8], at: usize) -> usize
-    ensures { LandsEach (remarkPieces text.now) at out.old result out.new }
+    ensures { LandsEach (remark_pieces text.now) at out.old result out.new }
 {
     let from = put_text(b"* ", out, at);
     let end = put_text(text, out, from);
@@ -30,8 +30,8 @@ pub(crate) fn write_entry(
     out: &mut [u8],
     at: usize,
 ) -> usize
-    requires { EntryReady mode (onColumns weights.now literals.now) text.now (entry_of kind first count bound) at out.old }
-    ensures { Puts (entryText mode (onColumns weights.now literals.now) text.now (entry_of kind first count bound)) at out.old result out.new }
+    requires { EntryReady mode (on_columns weights.now literals.now) text.now (entry_of kind first count bound) at out.old }
+    ensures { Puts (entry_text mode (on_columns weights.now literals.now) text.now (entry_of kind first count bound)) at out.old result out.new }
 {
     match sort_of(kind, bound) {
         Sort::Comment => {

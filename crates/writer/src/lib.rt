@@ -6,7 +6,7 @@ mod entries;
 ghost use Rattle.std.specs.Prelude.{◌≡◌};
 ghost use Rattle.definitions.specs.Lists.{over};
 ghost use Rattle.definitions.specs.Table.{table};
-ghost use Rattle.writer.specs.SecondWalk.{linesFor, LinesReady};
+ghost use Rattle.writer.specs.SecondWalk.{lines_for, LinesReady};
 ghost use Rattle.writer.specs.Writes.{Writes};
 
 use definitions::{Length, Mode, Refusal};
@@ -25,7 +25,7 @@ pub(crate) fn write_lines(
     out: &mut [u8],
 )
     requires { LinesReady mode (table kinds.now firsts.now counts.now bounds.now weights.now literals.now) text.now out.old }
-    ensures { out.new ≡ over (linesFor mode (table kinds.now firsts.now counts.now bounds.now weights.now literals.now) text.now) out.old }
+    ensures { out.new ≡ over (lines_for mode (table kinds.now firsts.now counts.now bounds.now weights.now literals.now) text.now) out.old }
 {
     let rows = columns::row_room(kinds, firsts, counts, bounds);
     let mut at: usize = 0;

@@ -9,13 +9,13 @@ use borrow.Author.Tests.{not-true, not-false}
 use lib.ListN.{length, get_or, drop}
 use Rattle.definitions.specs.Literal.{index_of}
 use Rattle.term_checks.proofs.Every.{every-end, every-fails, every-passes}
-use Rattle.assigned.specs.WordsSay.{hasBy, codesCovered}
+use Rattle.assigned.specs.WordsSay.{has_by, codes_covered}
 use Rattle.assigned.proofs.covered.Statement.{statement}
 use Rattle.assigned.proofs.covered.Tie as tie
 
 abbrev invariant-loop : tie.invariant-loop
 invariant-loop literals words known all i₀ i =
-    (i ≤ length literals) × (codesCovered (hasBy all words known) literals ≡ codesCovered (hasBy all words known) (drop i literals))
+    (i ≤ length literals) × (codes_covered (has_by all words known) literals ≡ codes_covered (has_by all words known) (drop i literals))
 
 abbrev decreases-loop : tie.decreases-loop
 decreases-loop literals words known all i₀ i = length literals - i
@@ -32,7 +32,7 @@ abbrev place : At → ℕ
 place k = k.before.before.before.before.before.before.loop.i
 
 abbrev has : At → ℕ → Bool
-has k = let a = (start k).args in hasBy a.all a.words.now a.known.now
+has k = let a = (start k).args in has_by a.all a.words.now a.known.now
 
 -- what the call says of the code that is read
 asked : (k : At) → has k (index_of (get_or (start k).args.literals.now (place k) 0)) ≡ k.has_value.result

@@ -6,7 +6,7 @@ use borrow.Author.Rules.{rules, scaled_Fits}
 use lib.Bits.{bit_and, and_le_l}
 use lib.Count.{ones, ones-le}
 use lib.ListN.{length, get_or, length-take}
-use Rattle.definitions.specs.Limits.{wordLimit}
+use Rattle.definitions.specs.Limits.{word_limit}
 use Rattle.assigned.specs.WordsSay.{looked}
 use Rattle.assigned.proofs.Counts.{Counted, counted_none, counted-first, counted-all}
 use Rattle.assigned.proofs.ones_of.Statement.{statement}
@@ -74,7 +74,7 @@ loop-again c =
     let a = (start c).args in (
       omega arith,
       rw c.before.known-word.ensures
-          (counted-first a.all wordLimit a.words.now a.known.now l.i l.ones l.invariant.1
+          (counted-first a.all word_limit a.words.now a.known.now l.i l.ones l.invariant.1
           (omega (arith, in_words c.before)) (omega (arith, c.before.before.before.before.lesser.ensures)) (word_fits c)),
     )
 
@@ -83,7 +83,7 @@ unfolding looked
 returns c =
     let l = c.before.loop in
     let ws = c.before.before.before.before.before.args.words.now in
-    counted-all _ _ _ l.i l.ones l.invariant.1 (omega (arith, c.before.before.lesser.ensures, length-take wordLimit ws))
+    counted-all _ _ _ l.i l.ones l.invariant.1 (omega (arith, c.before.before.lesser.ensures, length-take word_limit ws))
 
 pub ones-of-spec : {M : Type 1} → statement M
 ones-of-spec =

@@ -5,7 +5,7 @@ use mathlib.Core.Path.{◌≡◌, sym, ap, ◌∙◌}
 use native.Mathlib.Omega.{arith}
 use borrow.Author.Rules.{rules}
 use lib.ListN.{length, drop}
-use Rattle.definitions.specs.Bytes.{lineEnding, untilEnding}
+use Rattle.definitions.specs.Bytes.{line_ending, until_ending}
 use Rattle.definitions.proofs.Parts.{part-is}
 use Rattle.beginnings.proofs.Comments.{remark-empty, comment-text-within, comment-within, remark-spaced, remark-plain, remark-bare}
 use Rattle.beginnings.proofs.read_comment.Statement.{statement}
@@ -22,8 +22,8 @@ module _ (c : tie.After-until-ending-of) where
   text-some : 0 < length text
   text-some = omega arith
 
-  bytes-is : bytes ≡ untilEnding (drop 1 text)
-  bytes-is = c.until-ending-of.ensures ∙ ap untilEnding (part-is text 1)
+  bytes-is : bytes ≡ until_ending (drop 1 text)
+  bytes-is = c.until-ending-of.ensures ∙ ap until_ending (part-is text 1)
 
   bytes-within : bytes + 1 ≤ length text
   bytes-within = comment-text-within text bytes text-some bytes-is
@@ -33,8 +33,8 @@ module _ (c : tie.After-line-ending-of) where
   abbrev here : tie.After-until-ending-of
   here = c.before.before
 
-  ending-is : c.line-ending-of.result ≡ lineEnding (drop (bytes here + 1) (text here))
-  ending-is = c.line-ending-of.ensures ∙ ap lineEnding (part-is (text here) (bytes here + 1))
+  ending-is : c.line-ending-of.result ≡ line_ending (drop (bytes here + 1) (text here))
+  ending-is = c.line-ending-of.ensures ∙ ap line_ending (part-is (text here) (bytes here + 1))
 
 returns : tie.Need-returns
 returns c = sym (remark-empty c.before.before.args.s.now c.if1.true)

@@ -10,9 +10,9 @@ use Rattle.definitions.specs.Text.{statement}
 use Rattle.definitions.specs.declared.Options.{Options}
 use Rattle.definitions.specs.Walk.{bad}
 use Rattle.definitions.proofs.Parts.{part-is}
-use Rattle.columns.specs.Kinds.{termsOfKind}
-use Rattle.statements.specs.Brief.{briefStep}
-use Rattle.statements.specs.Said.{saidStatement}
+use Rattle.columns.specs.Kinds.{terms_of_kind}
+use Rattle.statements.specs.Brief.{brief_step}
+use Rattle.statements.specs.Said.{said_statement}
 use Rattle.statements.proofs.Briefs.{LineIs, brief-stop, brief-bad, brief-item}
 use Rattle.statements.proofs.Counts.{Counting, counting-start, counting-stop, counting-bad, counting-line, place-fits}
 use Rattle.statements.proofs.Counts.{line-has-byte, line-end-within, line-terms-fewer}
@@ -39,8 +39,8 @@ module _ (c : tie.After-opb-data invariant-loop decreases-loop) where
   abbrev stand : Counting options text place c.before.before.loop.rows c.before.before.loop.terms
   stand = c.before.before.loop.invariant
 
-  read : saidStatement c.opb-data.result ≡ briefStep (statement options (drop place text))
-  read = c.opb-data.ensures ∙ ap (λ (t : List ℕ). briefStep (statement options t)) (part-is text place)
+  read : said_statement c.opb-data.result ≡ brief_step (statement options (drop place text))
+  read = c.opb-data.ensures ∙ ap (λ (t : List ℕ). brief_step (statement options t)) (part-is text place)
 
 -- a refusal
 module _ (c : tie.After-known-told invariant-loop decreases-loop) where
@@ -49,7 +49,7 @@ module _ (c : tie.After-known-told invariant-loop decreases-loop) where
 
   refusal_is : statement (options at-bad) (drop (place at-bad) (text at-bad))
       ≡ bad c.before.refusal.given.0.0
-  refusal_is = brief-bad _ _ (sym (ap saidStatement c.before.refusal.given.1) ∙ read at-bad)
+  refusal_is = brief-bad _ _ (sym (ap said_statement c.before.refusal.given.1) ∙ read at-bad)
 
 -- a row
 module _ (c : tie.After-known-told2 invariant-loop decreases-loop) where
@@ -57,13 +57,13 @@ module _ (c : tie.After-known-told2 invariant-loop decreases-loop) where
   here = c.before.before.before
 
   abbrev terms : ℕ
-  terms = termsOfKind c.before.entry.given.0.0.kind c.before.entry.given.0.0.count
+  terms = terms_of_kind c.before.entry.given.0.0.kind c.before.entry.given.0.0.count
 
   abbrev count : ℕ
   count = c.before.entry.given.0.1.0
 
   line-is : LineIs (statement (options here) (drop (place here) (text here))) terms count
-  line-is = brief-item _ _ _ (sym (ap saidStatement c.before.entry.given.1) ∙ read here)
+  line-is = brief-item _ _ _ (sym (ap said_statement c.before.entry.given.1) ∙ read here)
 
   within : place here + count ≤ length (text here)
   within = line-end-within _ _ _ _ _ (stand here) terms count line-is
@@ -89,7 +89,7 @@ enum_told c = search rules
 returns : tie.Need-returns invariant-loop decreases-loop
 returns c =
     let d = c.before.before in
-    counting-stop _ _ _ _ _ (stand d) (brief-stop _ (sym (ap saidStatement c.enum_told.given.1) ∙ read d))
+    counting-stop _ _ _ _ _ (stand d) (brief-stop _ (sym (ap said_statement c.enum_told.given.1) ∙ read d))
 
 enum-known-refusal : tie.Need-enum-known-refusal invariant-loop decreases-loop
 enum-known-refusal c = search rules

@@ -1,7 +1,7 @@
 -- `evaluator::evaluate_known` meets its contract: its row under the words of both rows that are looked at. Assumes
 -- nothing.
 use borrow.Author.Rules.{rules}
-use Rattle.definitions.specs.Evaluate.{evaluatingKnown}
+use Rattle.definitions.specs.Evaluate.{evaluating_known}
 use Rattle.assigned.specs.WordsSay.{looked}
 use Rattle.evaluator.proofs.evaluate_known.Statement.{statement}
 use Rattle.evaluator.proofs.evaluate_known.Tie as tie
@@ -13,7 +13,7 @@ evaluate-row-requires : tie.Need-evaluate-row-requires
 evaluate-row-requires c κs = search rules
 
 returns : tie.Need-returns
-unfolding evaluatingKnown looked
+unfolding evaluating_known looked
 returns c = rw c.before.ones-of.ensures at c.evaluate-row.ensures
 
 pub evaluate-known-spec : {M : Type 1} → statement M

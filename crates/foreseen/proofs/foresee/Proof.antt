@@ -3,9 +3,9 @@ use mathlib.Core.Path.{◌≡◌, sym, ap, ◌∙◌}
 use native.Mathlib.Omega.{arith}
 use Prim.Native.Nat.{◌<◌}
 use lib.ListN.{length}
-use Rattle.definitions.specs.Limits.{neededLimit}
-use Rattle.definitions.specs.Table.{Table, table, rowRoom, termRoom, accepted}
-use Rattle.measures.specs.RowsMeasured.{saidMeasure, extentFor}
+use Rattle.definitions.specs.Limits.{needed_limit}
+use Rattle.definitions.specs.Table.{Table, table, row_room, term_room, accepted}
+use Rattle.measures.specs.RowsMeasured.{said_measure, extent_for}
 use Rattle.foreseen.proofs.Laws.{refused-before, foretold-is}
 use borrow.Author.Rules.{rules}
 use Rattle.foreseen.proofs.foresee.Statement.{statement}
@@ -47,7 +47,7 @@ returns c =
     let d = c.before.before.before in
     let s = begun d in
     refused-before s.args.mode (rows_of s) s.args.text.now (length s.args.out.now) _ (new-of s)
-    (sym (ap saidMeasure c.before.r.given.1) ∙ d.measure-opb-lines.ensures)
+    (sym (ap said_measure c.before.r.given.1) ∙ d.measure-opb-lines.ensures)
 
 returns-2 : tie.Need-returns-2
 returns-2 c =
@@ -55,13 +55,13 @@ returns-2 c =
     let d = a.before.before in
     let s = begun d in
     let x = a.all.given.0.0 in
-    let e : accepted x ≡ extentFor s.args.mode (rows_of s) s.args.text.now =
-    sym (ap saidMeasure a.all.given.1) ∙ d.measure-opb-lines.ensures in
-    let r : c.before.before.row_room.result ≡ rowRoom (new-of s) = c.before.before.row_room.ensures in
-    let t : c.before.term-room.result ≡ termRoom (new-of s) = c.before.term-room.ensures in
-    let small : length s.args.out.now < neededLimit = omega (arith, s.good) in
-    let few : rowRoom (new-of s) < neededLimit = omega (arith, s.good) in
-    let short : termRoom (new-of s) < neededLimit = omega (arith, s.good) in
+    let e : accepted x ≡ extent_for s.args.mode (rows_of s) s.args.text.now =
+    sym (ap said_measure a.all.given.1) ∙ d.measure-opb-lines.ensures in
+    let r : c.before.before.row_room.result ≡ row_room (new-of s) = c.before.before.row_room.ensures in
+    let t : c.before.term-room.result ≡ term_room (new-of s) = c.before.term-room.ensures in
+    let small : length s.args.out.now < needed_limit = omega (arith, s.good) in
+    let few : row_room (new-of s) < needed_limit = omega (arith, s.good) in
+    let short : term_room (new-of s) < needed_limit = omega (arith, s.good) in
     c.foretell.ensures
     ∙ rw (r, t) (foretold-is s.args.mode (rows_of s) s.args.text.now (length s.args.out.now) (new-of s) small few short x e)
 

@@ -7,21 +7,21 @@ use native.Mathlib.Omega.{arith}
 use borrow.Author.Tests.{eqb-false, ne_eqb}
 use lib.Dec.{eqb}
 use lib.ListN.{length}
-use Rattle.definitions.specs.Values.{isBit}
+use Rattle.definitions.specs.Values.{is_bit}
 use Rattle.items.proofs.Runs.{Passed, passed_none, passed-all, passed-end, passed-more}
 use Rattle.forms.proofs.bit_run.Statement.{statement}
 use Rattle.forms.proofs.bit_run.Tie as tie
 
-below : (b : ℕ) → b < 48 → isBit b ≡ false
+below : (b : ℕ) → b < 48 → is_bit b ≡ false
 below b h = rw (ne_eqb b 48 (λ e. omega arith), ne_eqb b 49 (λ e. omega arith))
 
-above : (b : ℕ) → 50 ≤ b → isBit b ≡ false
+above : (b : ℕ) → 50 ≤ b → is_bit b ≡ false
 above b h = rw (ne_eqb b 48 (λ e. omega arith), ne_eqb b 49 (λ e. omega arith))
 
-inside : (b : ℕ) → 48 ≤ b → b < 50 → isBit b ≡ true
+inside : (b : ℕ) → 48 ≤ b → b < 50 → is_bit b ≡ true
 inside b h g = cases (eqb b 48) refl
   where
-    cases : (x : Bool) → eqb b 48 ≡ x → isBit b ≡ true
+    cases : (x : Bool) → eqb b 48 ≡ x → is_bit b ≡ true
     cases true e = rw e
     cases false e =
         let f : b ≡ 48 → ⊥ = eqb-false b 48 e in
@@ -29,7 +29,7 @@ inside b h g = cases (eqb b 48) refl
         rw k
 
 abbrev invariant-loop : tie.invariant-loop
-invariant-loop s i₀ i = Passed isBit s i
+invariant-loop s i₀ i = Passed is_bit s i
 
 abbrev decreases-loop : tie.decreases-loop
 decreases-loop s i₀ i = length s - i

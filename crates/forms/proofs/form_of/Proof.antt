@@ -2,7 +2,7 @@
 use mathlib.Core.Path.{sym, ap, ◌∙◌}
 use borrow.Author.Rules.{rules}
 use Rattle.definitions.proofs.Parts.{part-is}
-use Rattle.forms.proofs.Forms.{isString, form-x, form-string, form-numbers, form-empty}
+use Rattle.forms.proofs.Forms.{is_string, form-x, form-string, form-numbers, form-empty}
 use Rattle.forms.proofs.form_of.Statement.{statement}
 use Rattle.forms.proofs.form_of.Tie as tie
 
@@ -32,14 +32,14 @@ returns-3 c =
     let d = c.before.before.before.before in
     let text = d.before.before.before.args.block.now in
     form-string text (sym d.before.has-x.ensures ∙ d.if1.false)
-    (sym (c.before.is-string.ensures ∙ ap isString (part-is text 1)) ∙ c.if3.true)
+    (sym (c.before.is-string.ensures ∙ ap is_string (part-is text 1)) ∙ c.if3.true)
 
 returns-4 : tie.Need-returns-4
 returns-4 c =
     let d = c.before.before.before.before in
     let text = d.before.before.before.args.block.now in
     form-numbers text (sym d.before.has-x.ensures ∙ d.if1.false)
-    (sym (c.before.is-string.ensures ∙ ap isString (part-is text 1)) ∙ c.if3.false)
+    (sym (c.before.is-string.ensures ∙ ap is_string (part-is text 1)) ∙ c.if3.false)
 
 pub form-of-spec : {M : Type 1} → statement M
 form-of-spec =

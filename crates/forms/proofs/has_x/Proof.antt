@@ -3,13 +3,13 @@
 use Prim.Native.Nat.{◌-◌}
 use native.Mathlib.Omega.{arith}
 use lib.ListN.{length}
-use Rattle.definitions.specs.Bytes.{letterX}
+use Rattle.definitions.specs.Bytes.{letter_x}
 use Rattle.items.proofs.Runs.{Sought, sought-none, sought-more, sought-all}
 use Rattle.forms.proofs.has_x.Statement.{statement}
 use Rattle.forms.proofs.has_x.Tie as tie
 
 abbrev invariant-loop : tie.invariant-loop
-invariant-loop s found₀ i₀ found i = Sought letterX s i found
+invariant-loop s found₀ i₀ found i = Sought letter_x s i found
 
 abbrev decreases-loop : tie.decreases-loop
 decreases-loop s found₀ i₀ found i = length s - i

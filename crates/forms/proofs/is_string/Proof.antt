@@ -5,7 +5,7 @@ use mathlib.Core.List.{List}
 use native.Mathlib.Omega.{arith}
 use borrow.Author.Rules.{rules}
 use lib.ListN.{length, drop}
-use Rattle.definitions.specs.Values.{isWhite, isBit, frontOf}
+use Rattle.definitions.specs.Values.{is_white, is_bit, front_of}
 use Rattle.definitions.proofs.Parts.{part-is}
 use Rattle.forms.proofs.Forms.{Trimmed, first-within, bits-within, last_within, string-not, string-more, string-one}
 use Rattle.forms.proofs.is_string.Statement.{statement}
@@ -30,8 +30,8 @@ module _ (c : tie.After-bit-run) where
   abbrev end : ℕ
   end = start at_bits + c.bit-run.result
 
-  bits_are : c.bit-run.result ≡ length (frontOf isBit (drop (start at_bits) (text at_bits)))
-  bits_are = c.bit-run.ensures ∙ ap (λ (s : List ℕ). length (frontOf isBit s)) (part-is (text at_bits) (start at_bits))
+  bits_are : c.bit-run.result ≡ length (front_of is_bit (drop (start at_bits) (text at_bits)))
+  bits_are = c.bit-run.ensures ∙ ap (λ (s : List ℕ). length (front_of is_bit s)) (part-is (text at_bits) (start at_bits))
 
   end-within : end ≤ length (text at_bits)
   end-within = bits-within (text at_bits) (start at_bits) c.bit-run.result (start-within at_bits) bits_are
@@ -44,8 +44,8 @@ module _ (c : tie.After-white-run2) where
   abbrev whole : List ℕ
   whole = text (at_bits at-end)
 
-  last-are : c.white-run2.result ≡ length (frontOf isWhite (drop (end at-end) whole))
-  last-are = c.white-run2.ensures ∙ ap (λ (s : List ℕ). length (frontOf isWhite s)) (part-is whole (end at-end))
+  last-are : c.white-run2.result ≡ length (front_of is_white (drop (end at-end) whole))
+  last-are = c.white-run2.ensures ∙ ap (λ (s : List ℕ). length (front_of is_white s)) (part-is whole (end at-end))
 
   tail_within : end at-end + c.white-run2.result ≤ length whole
   tail_within = last_within whole (end at-end) c.white-run2.result (end-within at-end) last-are

@@ -7,22 +7,22 @@ use mathlib.Core.Logic.{⊎_elim}
 use native.Mathlib.Omega.{arith}
 use borrow.Author.Tests.{le-leb, lt-leb, ne_eqb}
 use lib.ListN.{length}
-use Rattle.definitions.specs.Values.{isWhite}
+use Rattle.definitions.specs.Values.{is_white}
 use Rattle.items.proofs.Runs.{Passed, passed_none, passed-all, passed-end, passed-more}
 use Rattle.forms.proofs.white_run.Statement.{statement}
 use Rattle.forms.proofs.white_run.Tie as tie
 
-below : (b : ℕ) → b < 9 → isWhite b ≡ false
+below : (b : ℕ) → b < 9 → is_white b ≡ false
 below b h = rw (lt-leb 9 b h, ne_eqb b 32 (λ e. omega arith))
 
-above : (b : ℕ) → 13 < b → (b ≡ 32 → ⊥) → isWhite b ≡ false
+above : (b : ℕ) → 13 < b → (b ≡ 32 → ⊥) → is_white b ≡ false
 above b h g = rw (le-leb 9 b (omega arith), lt-leb b 13 h, ne_eqb b 32 g)
 
-inside : (b : ℕ) → 9 ≤ b → b ≤ 13 → isWhite b ≡ true
+inside : (b : ℕ) → 9 ≤ b → b ≤ 13 → is_white b ≡ true
 inside b h g = rw (le-leb 9 b h, le-leb b 13 g)
 
 abbrev invariant-loop : tie.invariant-loop
-invariant-loop s i₀ i = Passed isWhite s i
+invariant-loop s i₀ i = Passed is_white s i
 
 abbrev decreases-loop : tie.decreases-loop
 decreases-loop s i₀ i = length s - i

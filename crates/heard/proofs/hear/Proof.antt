@@ -7,7 +7,7 @@ use mathlib.Core.List.{List}
 use native.Mathlib.Omega.{arith}
 use borrow.Author.Rules.{rules}
 use Rattle.definitions.specs.Table.{accepted}
-use Rattle.definitions.specs.Values.{newLength}
+use Rattle.definitions.specs.Values.{new_length}
 use Rattle.heard.proofs.Hearing.{found_below, found-length, found-conflict, found-stop, found_all}
 use Rattle.heard.proofs.hear.Statement.{statement}
 use Rattle.heard.proofs.hear.Tie as tie
@@ -41,7 +41,7 @@ returns : tie.Need-returns
 returns c =
     let d = c.before in
     let b = d.before in
-    sym (ap (newLength (kept b))
+    sym (ap (new_length (kept b))
     (found-conflict (text b) (named b) (kept b) (ws b) (ks b) _ b.survey.ensures _ d.first-conflict.ensures c.if1.true))
 
 returns-2 : tie.Need-returns-2
@@ -49,7 +49,7 @@ returns-2 c =
     let e = c.before.before in
     let d = e.before in
     let b = d.before in
-    sym (ap (newLength (kept b))
+    sym (ap (new_length (kept b))
     (found-stop (text b) (named b) (kept b) (ws b) (ks b) _ b.survey.ensures _ d.first-conflict.ensures
     (omega (arith, e.if1.false)) c.if2.true))
 
@@ -59,7 +59,7 @@ returns-3 c =
     let d = e.before in
     let b = d.before in
     ap accepted (found-length (text b) (named b) (kept b) (ws b) (ks b) _ b.survey.ensures)
-    ∙ sym (ap (newLength (kept b))
+    ∙ sym (ap (new_length (kept b))
     (found_all (text b) (named b) (kept b) (ws b) (ks b) _ b.survey.ensures _ d.first-conflict.ensures
     (omega (arith, e.if1.false)) c.if2.false))
 

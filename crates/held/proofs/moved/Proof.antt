@@ -34,7 +34,7 @@ use denote.Triple.Table.{entered}
 use denote.Triple.Walked.{says, Stays, stay_none, walk_of, Goes-none, Walks, ends_at, walked, walk_Meets}
 use denote.Exit.{yes}
 use Rattle.held.specs.declared.Walker.{Walker}
-use Rattle.held.proofs.Holding.{Held, heldType, heldLaws, heldValues, held-vals, held_tells, held-typed}
+use Rattle.held.proofs.Holding.{Held, held_type, held_laws, held_values, held-vals, held_tells, held-typed}
 use Rattle.held.proofs.Walker.TheLaws as T'
 use Rattle.held.specs.contracts.moved.Key.{name as #moved}
 use Rattle.held.specs.contracts.moved as moved
@@ -68,10 +68,10 @@ module _ {M : Type 1} {𝓤 : Ura M} (𝓛 : Logic 𝓤) (mem : Memory → SProp
       qed 𝓛 ((‵ (flft κ q) ⊛ ‵ ftrue) ∷ ‵ (owns (Held (κ, tt) ∷ usize ∷ []) (d, (n, tt)) vals) ∷ []) ∵
       suffices ! _ (ends_at 𝓛 moved.ended stayed (moved.clauses 𝓛 mem run)
       (((κ, tt), (q, tt), tt, (d, (n, tt)), vals), tt) (T'.lowered d') d' (tt, (tt, tt)) (tt, (tt, tt))) $ says ! refl $
-      frame ! $ fsplit ! $ use1 𝓛 (‵ Own ⊛ ‵ Own) ((struct.copy (heldType κ) (T'.the_copy (named_lft 1 0 tt (κ, tt))) 𝓛
+      frame ! $ fsplit ! $ use1 𝓛 (‵ Own ⊛ ‵ Own) ((struct.copy (held_type κ) (T'.the_copy (named_lft 1 0 tt (κ, tt))) 𝓛
       ).twice d (w ∷ [])) $ split ! $ move ! (0 ∷ 2 ∷ []) $ fjoin ! $ frame ! $
       owned ! usize (Is usize) (uint_Makes 𝓛 w64) n _ (refl, small) $ move ! (1 ∷ 0 ∷ []) $
-      by ! (own_put 𝓛 (heldType κ) (heldLaws κ) 2 (heldValues κ d) n w)
+      by ! (own_put 𝓛 (held_type κ) (held_laws κ) 2 (held_values κ d) n w)
 
   module _ (C : Calls 𝓤 H) (Λ : Loops 𝓤 H) where
     walk : n < 2 ^ 64 → Holds (has_ty (T'.mir (named 0)) w) × WT w

@@ -45,7 +45,7 @@ use denote.Triple.Table.{entered, cited}
 use denote.Triple.Walked.{says, Stays, stay_none, gave_slice, walk_of, Goes-none, Goes-gave_slice, Walks, ends_at, walked, walk_Meets}
 use denote.Triple.Clauses.{ensured, lasts}
 use denote.Exit.{yes}
-use Rattle.definitions.specs.Stepping.{termsAtStep}
+use Rattle.definitions.specs.Stepping.{terms_at_step}
 use Rattle.definitions.specs.declared.Options.{Options}
 use Rattle.definitions.proofs.Options.TheLaws as O'
 use Rattle.definitions.specs.declared.Length.{Length}
@@ -116,7 +116,7 @@ module _ {M : Type 1} {𝓤 : Ura M} (𝓛 : Logic 𝓤) (mem : Memory → SProp
 
   -- what `fill_at` answers, with the columns' last content
   abbrev Said : Length → List ℤ → List ℕ → Type 0
-  Said r zw zl = FillsTerms (termsAtStep d.options d.file.now d.at x.now y.now) x.now y.now r zw zl
+  Said r zw zl = FillsTerms (terms_at_step d.options d.file.now d.at x.now y.now) x.now y.now r zw zl
 
   -- the call
   abbrev Handed : Type 0

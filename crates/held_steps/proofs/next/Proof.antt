@@ -48,10 +48,10 @@ use denote.Triple.Spec.{Meets, triple_of}
 use denote.Triple.Table.{entered, cited}
 use denote.Triple.Walked.{says, Stays, stay_ref, walk_of, Goes-ref, Walks, ends_at, walked, walk_Meets}
 use denote.Triple.Clauses.{ensured, lasts}
-use Rattle.definitions.specs.Stepping.{offsetAfter}
+use Rattle.definitions.specs.Stepping.{offset_after}
 use Rattle.definitions.proofs.Options.TheLaws as O'
-use Rattle.walker.specs.Said.{saidStepped, briefStepped}
-use Rattle.held.specs.HeldWalker.{walkerAt}
+use Rattle.walker.specs.Said.{said_stepped, brief_stepped}
+use Rattle.held.specs.HeldWalker.{walker_at}
 use Rattle.held_steps.specs.WalkerSteps.{step_of, Nexts}
 use Rattle.held.specs.declared.Walker.{Walker}
 use Rattle.walker.specs.declared.steps.Stepped.{Stepped}
@@ -123,7 +123,7 @@ module _ {M : Type 1} {𝓤 : Ura M} (𝓛 : Logic 𝓤) (at_mem : Memory → SP
 
   -- ---- the call of `step_at`
   abbrev Said : Stepped → Type 0
-  Said r = saidStepped r ≡ briefStepped (step_of h)
+  Said r = said_stepped r ≡ brief_stepped (step_of h)
 
   abbrev passed : Vals step-at.signature (κ', tt)
   passed = (slice_val h.file.ref_ptr (length h.file.now) ∷ [], (O'.lowered h.options ∷ [], (vint w64 h.at ∷ [], tt)))
@@ -141,7 +141,7 @@ module _ {M : Type 1} {𝓤 : Ura M} (𝓛 : Logic 𝓤) (at_mem : Memory → SP
   -- ---- the call of `offset_after`, on the answer r with the machine value u
   module _ (r : Stepped) (u : Val) where
     abbrev Offset : ℕ → Type 0
-    Offset n = n ≡ offsetAfter (saidStepped r) h.at
+    Offset n = n ≡ offset_after (said_stepped r) h.at
 
     abbrev handed : Vals offset-after.signature tt
     handed = (u ∷ [], (vint w64 h.at ∷ [], tt))
@@ -166,8 +166,8 @@ module _ {M : Type 1} {𝓤 : Ura M} (𝓛 : Logic 𝓤) (at_mem : Memory → SP
       nexts : Said r → Offset n → Nexts h r (h' n)
       nexts e f = record {
         answer = e;
-        after = ap (walkerAt h.file h.options)
-            (f ∙ ap (λ (y : _). offsetAfter y h.at) e ∙ brief-offset (step_of h) h.at);
+        after = ap (walker_at h.file h.options)
+            (f ∙ ap (λ (y : _). offset_after y h.at) e ∙ brief-offset (step_of h) h.at);
       }
 
       exits : Said r → Offset n

@@ -38,12 +38,12 @@ use denote.Triple.Table.{entered, cited}
 use denote.Triple.Walked.{says, Stays, stay_none, walk_of, Goes-none, Walks, ends_at, walked, walk_Meets}
 use denote.Triple.Clauses.{ensured, lasts}
 use denote.Exit.{yes}
-use Rattle.definitions.specs.Stepping.{stepAt}
+use Rattle.definitions.specs.Stepping.{step_at}
 use Rattle.definitions.proofs.Options.TheLaws as O'
-use Rattle.walker.specs.Said.{saidStepped, briefStepped}
+use Rattle.walker.specs.Said.{said_stepped, brief_stepped}
 use Rattle.held.specs.declared.Walker.{Walker}
 use Rattle.walker.specs.declared.steps.Stepped.{Stepped}
-use Rattle.held.proofs.Holding.{Held, heldType, heldLaws, heldValues, held-vals, held_tells, held-typed}
+use Rattle.held.proofs.Holding.{Held, held_type, held_laws, held_values, held-vals, held_tells, held-typed}
 use Rattle.held.proofs.Walker.TheLaws as T'
 use Rattle.walker.specs.contracts.steps.Stepped as S
 use Rattle.walker.proofs.steps.Stepped.TheLaws as S'
@@ -78,30 +78,30 @@ module _ {M : Type 1} {𝓤 : Ura M} (𝓛 : Logic 𝓤) (mem : Memory → SProp
 
   -- what `step_at` answers
   abbrev Said : Stepped → Type 0
-  Said r = saidStepped r ≡ briefStepped (stepAt d.options d.file.now d.at)
+  Said r = said_stepped r ≡ brief_stepped (step_at d.options d.file.now d.at)
 
   -- the call: the fields' machine values, and what is asked
   abbrev passed : Vals step-at.signature (κ, tt)
   passed = (slice_val d.file.ref_ptr (length d.file.now) ∷ [], (O'.lowered d.options ∷ [], (vint w64 d.at ∷ [], tt)))
 
   abbrev to : (StepAt 𝓛 mem run).Ghost
-  to = (((κ, tt), (q, tt), tt, heldValues κ d, passed), tt)
+  to = (((κ, tt), (q, tt), tt, held_values κ d, passed), tt)
 
-  asked : ent 𝓤 (on_entry 𝓛 step-at.signature (κ, tt) (q, tt) (heldValues κ d) passed) ((StepAt 𝓛 mem run).pre to)
-  asked = qed 𝓛 ((‵ (flft κ q) ⊛ ‵ ftrue) ∷ ‵ (all_own (heldType κ).parts (heldLaws κ) (heldValues κ d)) ∷ []) ∵ join ! $ frame ! $ done !
+  asked : ent 𝓤 (on_entry 𝓛 step-at.signature (κ, tt) (q, tt) (held_values κ d) passed) ((StepAt 𝓛 mem run).pre to)
+  asked = qed 𝓛 ((‵ (flft κ q) ⊛ ‵ ftrue) ∷ ‵ (all_own (held_type κ).parts (held_laws κ) (held_values κ d)) ∷ []) ∵ join ! $ frame ! $ done !
 
   apart : ent 𝓤 (on_entry 𝓛 step.signature (κ, tt) (q, tt) (d, tt) (w ∷ [], tt)) (sep 𝓤 ((StepAt 𝓛 mem run).pre to) (sem 𝓛 Own))
   apart =
       qed 𝓛 ((‵ (flft κ q) ⊛ ‵ ftrue) ∷ ‵ (owns (Held (κ, tt) ∷ []) (d, tt) (w ∷ [], tt)) ∷ []) ∵
       move ! (1 ∷ []) $ fsplit ! $ move ! (1 ∷ []) $ drop ! $
-      use1 𝓛 (‵ Own ⊛ ‵ Own) ((struct.copy (heldType κ) (T'.the_copy (named_lft 1 0 tt (κ, tt))) 𝓛).twice d (w ∷ [])) $ split ! $
-      use1 𝓛 (given (w ∷ [] ≡ w ∷ []) (‵ (all_own (heldType κ).parts (heldLaws κ) (heldValues κ d))))
-      (own_open 𝓛 (heldType κ) (heldLaws κ) (heldValues κ d) w) $ learn ! (λ _.
+      use1 𝓛 (‵ Own ⊛ ‵ Own) ((struct.copy (held_type κ) (T'.the_copy (named_lft 1 0 tt (κ, tt))) 𝓛).twice d (w ∷ [])) $ split ! $
+      use1 𝓛 (given (w ∷ [] ≡ w ∷ []) (‵ (all_own (held_type κ).parts (held_laws κ) (held_values κ d))))
+      (own_open 𝓛 (held_type κ) (held_laws κ) (held_values κ d) w) $ learn ! (λ _.
       move ! (2 ∷ 0 ∷ []) $ use2 𝓛 (raw ((StepAt 𝓛 mem run).pre to)) asked $ frame ! $ done !)
 
   -- nothing is lent, so that the callee's clause is all that it says
-  said : (r : Stepped) → ent 𝓤 (ensured 𝓛 step-at.ended (step-at.clauses 𝓛 mem run) (κ, tt) (heldValues κ d) tt r) (fact 𝓤 (Said r))
-  said r = ex_e 𝓤 _ (λ ws. snd∗ 𝓤 (sem 𝓛 (lasts step-at.ended (κ, tt) (heldValues κ d) ws)) (fact 𝓤 (Said r)))
+  said : (r : Stepped) → ent 𝓤 (ensured 𝓛 step-at.ended (step-at.clauses 𝓛 mem run) (κ, tt) (held_values κ d) tt r) (fact 𝓤 (Said r))
+  said r = ex_e 𝓤 _ (λ ws. snd∗ 𝓤 (sem 𝓛 (lasts step-at.ended (κ, tt) (held_values κ d) ws)) (fact 𝓤 (Said r)))
 
   exits : (r : Stepped) (u : Val) → Said r
       → ent 𝓤 (⋆ 𝓛 (‵ ((S.the_row).own_val r (u ∷ [])) ∷ (‵ (flft κ q) ⊛ ‵ ftrue) ∷ ‵ Own ∷ [])) (Post u)
@@ -130,7 +130,7 @@ module _ {M : Type 1} {𝓤 : Ura M} (𝓛 : Logic 𝓤) (mem : Memory → SProp
         (and_then ! (load ! (from ! (stop !)) (look ! 6 refl))
         (and_then ! (load ! (from ! (stop !)) (look ! 4 refl)) (and_then ! (load ! (from ! (stop !)) (look ! 2 refl)) (no_more !)))) (λ u.
         use1 𝓛 (later (some (λ (r : Stepped). ((‵ (flft κ q) ⊛ ‵ ftrue) ⊛ ‵ ((S.the_row).own_val r (u ∷ []))) ⊛ raw
-        (ensured 𝓛 step-at.ended (step-at.clauses 𝓛 mem run) (κ, tt) (heldValues κ d) tt r)))) (id⊢ 𝓤 _) $
+        (ensured 𝓛 step-at.ended (step-at.clauses 𝓛 mem run) (κ, tt) (held_values κ d) tt r)))) (id⊢ 𝓤 _) $
         await ! tt $ pick ! (λ r. split ! $ move ! (1 ∷ []) $ use1 𝓛 (raw (fact 𝓤 (Said r))) (said r) $
         heard ! (Said r) (λ e. split ! $ move ! (1 ∷ []) $
         -- [the answer; the token; what the walker owns; at; …; options; …; file; …; walker; …; room for the result; …]

@@ -3,11 +3,11 @@ use native.Mathlib.Omega.{arith}
 use mathlib.Core.Path.{sym, ap, ◌∙◌}
 use Prim.Native.Nat.{ℕ, ◌<◌}
 use lib.ListN.{length}
-use Rattle.definitions.specs.Limits.{neededLimit}
+use Rattle.definitions.specs.Limits.{needed_limit}
 use Rattle.definitions.specs.Table.{Table, table}
 use Rattle.house_measures.specs.declared.rows.Size.{Size}
 use Rattle.house_measures.specs.Lines.{lines_of}
-use Rattle.house_measures.specs.Sizes.{saidMeasured}
+use Rattle.house_measures.specs.Sizes.{said_measured}
 use Rattle.house.proofs.Listings.{Counted, refused-sizes, accepted-sizes, lists-refused, listing_full}
 use Rattle.house.proofs.Listings.{head-room, lines-ready, listing-all}
 use borrow.Author.Rules.{rules}
@@ -33,9 +33,9 @@ module _ (c : tie.After-text-length) where
   counted =
       accepted-sizes start.args.first (lines_of start.args.first start.args.rows (whole start))
       (record { rows = rows; all = size })
-      (sym (ap saidMeasured c.before.before.n.given.1) ∙ c.before.before.before.before.measure-rows.ensures)
+      (sym (ap said_measured c.before.before.n.given.1) ∙ c.before.before.before.before.measure-rows.ensures)
 
-  short : length start.args.out.now < neededLimit
+  short : length start.args.out.now < needed_limit
   short = omega (arith, start.good)
 
 measure-rows-requires : tie.Need-measure-rows-requires
@@ -79,7 +79,7 @@ returns-2 c =
     let s = m.before.before.before.before.before.before in
     lists-refused s.args.first s.args.rows (whole s) s.args.out.now _
     (refused-sizes s.args.first _ (lines_of s.args.first s.args.rows (whole s))
-    (sym (ap saidMeasured c.before.refusal.given.1) ∙ m.measure-rows.ensures))
+    (sym (ap said_measured c.before.refusal.given.1) ∙ m.measure-rows.ensures))
 
 same_length : tie.Need-same-length
 same_length c = search rules

@@ -4,17 +4,17 @@ use mathlib.Core.Path.{◌≡◌}
 use mathlib.Core.Bool.{true, false}
 use native.Mathlib.Omega.{arith}
 use borrow.Author.Tests.{le-leb, lt-leb, ne_eqb}
-use Rattle.definitions.specs.Values.{isWhite}
+use Rattle.definitions.specs.Values.{is_white}
 use Rattle.items.proofs.is_white.Statement.{statement}
 use Rattle.items.proofs.is_white.Tie as tie
 
-below : (b : ℕ) → b < 9 → false ≡ isWhite b
+below : (b : ℕ) → b < 9 → false ≡ is_white b
 below b h = rw (lt-leb 9 b h, ne_eqb b 32 (λ e. omega arith))
 
-above : (b : ℕ) → 13 < b → (b ≡ 32 → ⊥) → false ≡ isWhite b
+above : (b : ℕ) → 13 < b → (b ≡ 32 → ⊥) → false ≡ is_white b
 above b h g = rw (le-leb 9 b (omega arith), lt-leb b 13 h, ne_eqb b 32 g)
 
-inside : (b : ℕ) → 9 ≤ b → b ≤ 13 → true ≡ isWhite b
+inside : (b : ℕ) → 9 ≤ b → b ≤ 13 → true ≡ is_white b
 inside b h g = rw (le-leb 9 b h, le-leb b 13 g)
 
 returns : tie.Need-returns

@@ -5,9 +5,9 @@ use mathlib.Core.List.{List}
 use native.Mathlib.Omega.{arith}
 use borrow.Author.Rules.{rules}
 use lib.ListN.{length}
-use Rattle.definitions.specs.Values.{isSolid, frontOf}
+use Rattle.definitions.specs.Values.{is_solid, front_of}
 use Rattle.definitions.proofs.Parts.{part-is}
-use Rattle.items.specs.Items.{word, spot_of, found_from, textAt, saidSought, itemBy}
+use Rattle.items.specs.Items.{word, spot_of, found_from, text_at, said_sought, item_by}
 use Rattle.items.specs.declared.Sought.{Sought}
 use Rattle.items.specs.declared.NextItem.TheVariants as item
 use Rattle.items.proofs.Spots.{TokenMet, token-met}
@@ -22,8 +22,8 @@ module _ (c : tie.After-seek) where
   abbrev text : List ℕ
   text = start.before.args.block.now
 
-  found : (r : Sought) → c.seek.result ≡ r → saidSought r ≡ found_from start.before.args.front start.before.args.from text
-  found r e = sym (ap saidSought e) ∙ c.seek.ensures
+  found : (r : Sought) → c.seek.result ≡ r → said_sought r ≡ found_from start.before.args.front start.before.args.from text
+  found r e = sym (ap said_sought e) ∙ c.seek.ensures
 
 -- a token is met
 module _ (c : tie.After-known-told2) where
@@ -44,8 +44,8 @@ module _ (c : tie.After-solid-run) where
   abbrev met : tie.After-known-told2
   met = c.before.before
 
-  long : c.solid-run.result ≡ length (textAt (text (sought met)) (place met))
-  long = c.solid-run.ensures ∙ ap (λ (s : List ℕ). length (frontOf isSolid s)) (part-is (text (sought met)) (place met))
+  long : c.solid-run.result ≡ length (text_at (text (sought met)) (place met))
+  long = c.solid-run.ensures ∙ ap (λ (s : List ℕ). length (front_of is_solid s)) (part-is (text (sought met)) (place met))
 
   within : place met + c.solid-run.result ≤ length (text (sought met))
   within = omega (arith, long, (token-here met).fits)
@@ -78,15 +78,15 @@ add-end : tie.Need-overflow-add-end
 add-end c = omega (arith, within c)
 
 returns : tie.Need-returns
-returns c = let d = c.before.before in ap (itemBy (text d)) (found d _ c.enum_told.given.1)
+returns c = let d = c.before.before in ap (item_by (text d)) (found d _ c.enum_told.given.1)
 
 returns-2 : tie.Need-returns-2
-returns-2 c = let d = c.before.before.before in ap (itemBy (text d)) (found d _ c.before.place.given.1)
+returns-2 c = let d = c.before.before.before in ap (item_by (text d)) (found d _ c.before.place.given.1)
 
 returns-3 : tie.Need-returns-3
 returns-3 c =
     let m = met c in
-    ap (λ (n : ℕ). item.Token (place m) (place m + n)) (long c) ∙ ap (itemBy (text (sought m))) (token-found m)
+    ap (λ (n : ℕ). item.Token (place m) (place m + n)) (long c) ∙ ap (item_by (text (sought m))) (token-found m)
 
 pub next-item-spec : {M : Type 1} → statement M
 next-item-spec =

@@ -6,13 +6,13 @@ use mathlib.Core.Bool.{not}
 use native.Mathlib.Omega.{arith}
 use borrow.Author.Rules.{rules}
 use lib.ListN.{length}
-use Rattle.definitions.specs.Values.{isSolid}
+use Rattle.definitions.specs.Values.{is_solid}
 use Rattle.items.proofs.Runs.{Passed, passed_none, passed-all, passed-end, passed-more}
 use Rattle.items.proofs.solid_run.Statement.{statement}
 use Rattle.items.proofs.solid_run.Tie as tie
 
 abbrev invariant-loop : tie.invariant-loop
-invariant-loop s i₀ i = Passed isSolid s i
+invariant-loop s i₀ i = Passed is_solid s i
 
 abbrev decreases-loop : tie.decreases-loop
 decreases-loop s i₀ i = length s - i

@@ -5,7 +5,7 @@ use mir.Syntax.{w64}
 use mir.Val.{SFits, to_z, of_z}
 use mir.Facts.{to_z-of_z}
 use lib.IntN.{ℤ}
-use Rattle.lines.specs.LinePieces.{boundBy}
+use Rattle.lines.specs.LinePieces.{bound_by}
 use Rattle.lines.proofs.Rows.{row-lands, tail-objective, tail-constraint}
 use borrow.Author.Rules.{rules}
 use Rattle.lines.proofs.put_row.Statement.{statement}
@@ -27,7 +27,7 @@ module _ (c : tie.After-final-bound) where
   abbrev bound : ℤ
   bound = to_z w64 (of_z w64 c.final-bound.result)
 
-  bound-is : bound ≡ boundBy start.args.shape termed.put-terms.result.sums
+  bound-is : bound ≡ bound_by start.args.shape termed.put-terms.result.sums
   bound-is =
       let f : SFits w64 start.args.shape.bound = record { sfits = c.before.before.struct_told.given.1.1.0.1 } in
       to_z-of_z (sfits_of c.final-bound.type-inv) ∙ rw (to_z-of_z f) at c.final-bound.ensures

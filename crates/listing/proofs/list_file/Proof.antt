@@ -6,7 +6,7 @@ use mathlib.Core.Path.{◌≡◌, sym}
 use native.Mathlib.Omega.{arith}
 use borrow.Author.Rules.{rules}
 use lib.ListN.{length}
-use Rattle.definitions.specs.Limits.{neededLimit}
+use Rattle.definitions.specs.Limits.{needed_limit}
 use Rattle.definitions.specs.Refusal.{needed}
 use Rattle.definitions.specs.Table.{Table, table}
 use Rattle.definitions.specs.File.{first_at, reading}
@@ -34,7 +34,7 @@ module _ (c : tie.After-listing-length) where
   measured =
       c.listing-length.ensures lent (sym c.before.before.before.before.row_room.ensures) (sym c.before.term-room.ensures)
 
-  short : length out < neededLimit
+  short : length out < needed_limit
   short = omega (arith, start.good)
 
 row-room-requires : tie.Need-row-room-requires

@@ -9,7 +9,7 @@ use Rattle.definitions.specs.Table.{accepted}
 use Rattle.definitions.specs.File.{file}
 use Rattle.definitions.specs.declared.Options.{Options}
 use Rattle.listing_lengths.specs.declared.Sizes.{Sizes}
-use Rattle.listing_lengths.specs.Measure.{fileSizes, saidMeasured}
+use Rattle.listing_lengths.specs.Measure.{file_sizes, said_measured}
 use Rattle.listing_lengths.proofs.FileLengths.{refusal-listed, rows-listed, terms-listed, text-listed}
 use Rattle.listing_lengths.proofs.listing_length.Statement.{statement}
 use Rattle.listing_lengths.proofs.listing_length.Tie as tie
@@ -31,8 +31,8 @@ module _ (c : tie.After-known-told2) where
   abbrev found : Sizes
   found = c.before.found.given.0.0
 
-  sizes : accepted found ≡ fileSizes options.first (file options text)
-  sizes = sym (ap saidMeasured c.before.found.given.1) ∙ measured.measure-file.ensures
+  sizes : accepted found ≡ file_sizes options.first (file options text)
+  sizes = sym (ap said_measured c.before.found.given.1) ∙ measured.measure-file.ensures
 
 measure-file-requires : tie.Need-measure-file-requires
 measure-file-requires c κs = search rules
@@ -74,7 +74,7 @@ returns-3 c =
     let m = k.before.before.before in
     let s = m.before.before in
     λ t p q. refusal-listed s.args.options s.args.s.now t _ _ (omega (arith, k.known-told.given))
-    (omega (arith, k.known-told.given)) (sym (ap saidMeasured k.before.e.given.1) ∙ m.measure-file.ensures)
+    (omega (arith, k.known-told.given)) (sym (ap said_measured k.before.e.given.1) ∙ m.measure-file.ensures)
     c.refusal-length.ensures
 
 returns-4 : tie.Need-returns-4

@@ -12,12 +12,12 @@ use Rattle.definitions.specs.Walk.{bad, item}
 use Rattle.definitions.specs.declared.Options.{Options}
 use Rattle.definitions.proofs.Parts.{part-is}
 use Rattle.definitions.specs.declared.Entry.{Entry}
-use Rattle.statements.specs.Brief.{briefStep}
-use Rattle.statements.specs.Met.{statementMet}
-use Rattle.statements.specs.Said.{saidStatement}
+use Rattle.statements.specs.Brief.{brief_step}
+use Rattle.statements.specs.Met.{statement_met}
+use Rattle.statements.specs.Said.{said_statement}
 use Rattle.statements.proofs.Briefs.{brief-stop, brief-bad}
-use Rattle.house_lengths.specs.Lengths.{lineLength}
-use Rattle.listing_lengths.specs.Measure.{fieldsLength}
+use Rattle.house_lengths.specs.Lengths.{line_length}
+use Rattle.listing_lengths.specs.Measure.{fields_length}
 use Rattle.listing_lengths.proofs.FileLengths.{FileSized, file-start, file-stop, bad-fits, file-bad, Moved, file-moved, file-line}
 use Rattle.listing_lengths.proofs.measure_statements.Statement.{statement}
 use Rattle.listing_lengths.proofs.measure_statements.Tie as tie
@@ -48,8 +48,8 @@ module _ (c : tie.After-opb-data invariant-loop decreases-loop) where
   abbrev stand : FileSized options text place turn.loop.rows turn.loop.terms turn.loop.lines
   stand = turn.loop.inv
 
-  read : saidStatement c.opb-data.result ≡ briefStep (whole options (drop place text))
-  read = c.opb-data.ensures ∙ ap (λ (t : List ℕ). briefStep (whole options t)) (part-is text place)
+  read : said_statement c.opb-data.result ≡ brief_step (whole options (drop place text))
+  read = c.opb-data.ensures ∙ ap (λ (t : List ℕ). brief_step (whole options t)) (part-is text place)
 
 -- a refusal
 module _ (c : tie.After-known-told invariant-loop decreases-loop) where
@@ -57,7 +57,7 @@ module _ (c : tie.After-known-told invariant-loop decreases-loop) where
   at-bad = c.before.before.before
 
   refusal_is : whole (options at-bad) (drop (place at-bad) (text at-bad)) ≡ bad c.before.refusal.given.0.0
-  refusal_is = brief-bad _ _ (sym (ap saidStatement c.before.refusal.given.1) ∙ read at-bad)
+  refusal_is = brief-bad _ _ (sym (ap said_statement c.before.refusal.given.1) ∙ read at-bad)
 
 -- a row
 module _ (c : tie.After-known-told2 invariant-loop decreases-loop) where
@@ -70,8 +70,8 @@ module _ (c : tie.After-known-told2 invariant-loop decreases-loop) where
   abbrev bytes : ℕ
   bytes = c.before.entry.given.0.1.0
 
-  line-is : item entry bytes ≡ briefStep (whole (options here) (drop (place here) (text here)))
-  line-is = sym (ap saidStatement c.before.entry.given.1) ∙ read here
+  line-is : item entry bytes ≡ brief_step (whole (options here) (drop (place here) (text here)))
+  line-is = sym (ap said_statement c.before.entry.given.1) ∙ read here
 
   moved : Moved _ _ _ _ _ _ (stand here) entry bytes line-is
   moved = file-moved _ _ _ _ _ _ (stand here) entry bytes line-is
@@ -81,8 +81,8 @@ module _ (c : tie.After-statement-length invariant-loop decreases-loop) where
   abbrev row : tie.After-known-told2 invariant-loop decreases-loop
   row = c.before.before
 
-  measured : c.statement-length.result ≡ lineLength (entry row).kind (entry row).count (entry row).bound
-      (fieldsLength (options (here row)).first (statementMet (options (here row)) (drop (place (here row)) (text (here row)))))
+  measured : c.statement-length.result ≡ line_length (entry row).kind (entry row).count (entry row).bound
+      (fields_length (options (here row)).first (statement_met (options (here row)) (drop (place (here row)) (text (here row)))))
   measured = rw (part-is (text (here row)) (place (here row))) at c.statement-length.ensures
 
 loop-holds : tie.Need-loop-init invariant-loop decreases-loop
@@ -106,7 +106,7 @@ enum_told c = search rules
 returns : tie.Need-returns invariant-loop decreases-loop
 returns c =
     let d = c.before.before in
-    file-stop _ _ _ _ _ _ (stand d) (brief-stop _ (sym (ap saidStatement c.enum_told.given.1) ∙ read d))
+    file-stop _ _ _ _ _ _ (stand d) (brief-stop _ (sym (ap said_statement c.enum_told.given.1) ∙ read d))
 
 enum-known-refusal : tie.Need-enum-known-refusal invariant-loop decreases-loop
 enum-known-refusal c = search rules

@@ -5,7 +5,7 @@ use mathlib.Core.Path.{◌≡◌, sym, ap, ◌∙◌}
 use Prim.Native.Nat.{ℕ}
 use Rattle.definitions.specs.Refusal.{Checked, refuse, accept}
 use Rattle.definitions.specs.Literal.{index}
-use Rattle.literals.specs.Said.{saidFileNumber, saidVar, saidLit}
+use Rattle.literals.specs.Said.{said_file_number, said_var, said_lit}
 use Rattle.literals.proofs.Conversions.{index-of-digits, index-of-digits-refused}
 use Rattle.literal_read.proofs.Literals.{digits-missing, digits-indexed, digits-coded}
 use Rattle.literal_read.proofs.read_digits.Statement.{statement}
@@ -20,10 +20,10 @@ module _ (c : tie.After-of-file) where
   abbrev found : tie.Else1
   found = c.before.before.before.before.before
 
-  var-read : saidVar c.of-file.result ≡ indexed found
+  var-read : said_var c.of-file.result ≡ indexed found
   var-read =
       c.of-file.ensures
-      ∙ index-of-digits _ _ _ (sym (ap saidFileNumber c.before.before.n.given.1)
+      ∙ index-of-digits _ _ _ (sym (ap said_file_number c.before.before.n.given.1)
       ∙ c.before.before.before.before.of-digits.ensures)
 
 read-run-requires : tie.Need-read-run-requires
@@ -45,7 +45,7 @@ returns-2 : tie.Need-returns-2
 returns-2 c =
     let d = c.before.before.before in
     digits-indexed _ _ _ _ d.before.read-run.ensures d.if1.false (refuse 5)
-    (index-of-digits-refused _ _ (sym (ap saidFileNumber c.enum_told.given.1) ∙ c.before.before.of-digits.ensures))
+    (index-of-digits-refused _ _ (sym (ap said_file_number c.enum_told.given.1) ∙ c.before.before.of-digits.ensures))
 
 of-file-requires : tie.Need-of-file-requires
 of-file-requires c κs = search rules
@@ -61,7 +61,7 @@ returns-3 c =
     let v = c.before.before in
     let d = found v in
     digits-indexed _ _ _ _ d.before.read-run.ensures d.if1.left (refuse 5)
-    (sym (ap saidVar c.enum-told2.given.1) ∙ var-read v)
+    (sym (ap said_var c.enum-told2.given.1) ∙ var-read v)
 
 lit-requires : tie.Need-lit-requires
 lit-requires c κs = search rules
@@ -77,16 +77,16 @@ returns-4 c =
     let v = c.before.before.before.before in
     let d = found v.before.before in
     digits-coded _ _ _ _ d.before.read-run.ensures d.if1.left v.v.given.0.0.0
-    (sym (ap saidVar v.v.given.1) ∙ var-read v.before.before) (refuse 5)
-    (sym (ap saidLit c.enum-told3.given.1) ∙ c.before.before.lit.ensures)
+    (sym (ap said_var v.v.given.1) ∙ var-read v.before.before) (refuse 5)
+    (sym (ap said_lit c.enum-told3.given.1) ∙ c.before.before.lit.ensures)
 
 returns-5 : tie.Need-returns-5
 returns-5 c =
     let v = c.before.before.before.before.before in
     let d = found v.before.before in
     digits-coded _ _ _ _ d.before.read-run.ensures d.if1.left v.v.given.0.0.0
-    (sym (ap saidVar v.v.given.1) ∙ var-read v.before.before) (accept _)
-    (sym (ap saidLit c.before.l.given.1) ∙ c.before.before.before.lit.ensures)
+    (sym (ap said_var v.v.given.1) ∙ var-read v.before.before) (accept _)
+    (sym (ap said_lit c.before.l.given.1) ∙ c.before.before.before.lit.ensures)
 
 pub read-digits-spec : {M : Type 1} → statement M
 read-digits-spec =

@@ -10,7 +10,7 @@ use Rattle.definitions.specs.Bytes.{tilde, minus}
 use Rattle.definitions.specs.Reader.{more}
 use Rattle.definitions.specs.Text.{variable, literal}
 use Rattle.definitions.proofs.Parts.{part-is}
-use Rattle.literal_read.specs.Said.{saidLiteral}
+use Rattle.literal_read.specs.Said.{said_literal}
 use Rattle.literal_read.proofs.Literals.{literal-empty, literal-plain, literal-negated, negated-within}
 use Rattle.literal_read.proofs.read_literal.Statement.{statement}
 use Rattle.literal_read.proofs.read_literal.Tie as tie
@@ -23,10 +23,10 @@ module _ (c : tie.After-read-variable2) where
   negation : (get_or start.args.s.now 0 0 ≡ tilde) ⊎ (get_or start.args.s.now 0 0 ≡ minus)
   negation = ⊎_elim (λ w. inr w.1.left) (λ w. inl w.left) c.before.before.if2.branch
 
-  behind : saidLiteral c.read-variable2.result ≡ variable start.args.options true (drop 1 start.args.s.now)
+  behind : said_literal c.read-variable2.result ≡ variable start.args.options true (drop 1 start.args.s.now)
   behind = c.read-variable2.ensures ∙ ap (variable start.args.options true) (part-is start.args.s.now 1)
 
-  answer : more 1 (saidLiteral c.read-variable2.result) ≡ literal start.args.options start.args.s.now
+  answer : more 1 (said_literal c.read-variable2.result) ≡ literal start.args.options start.args.s.now
   answer = ap (more 1) behind ∙ literal-negated _ _ c.before.before.before.before.if1.false negation
 
 returns : tie.Need-returns
@@ -64,7 +64,7 @@ add-t18 c =
     let s = (start d).args.s.now in
     omega (
       arith,
-      negated-within _ (drop 1 s) _ _ (sym (behind d) ∙ ap saidLiteral c.before.l.given.1),
+      negated-within _ (drop 1 s) _ _ (sym (behind d) ∙ ap said_literal c.before.l.given.1),
       length-drop 1 s,
       (start d).well-formed.0.0,
     )
@@ -73,10 +73,10 @@ enum-known-e : tie.Need-enum-known-e
 enum-known-e c = search rules
 
 returns-3 : tie.Need-returns-3
-returns-3 c = sym (ap (λ r. more 1 (saidLiteral r)) c.before.l.given.1) ∙ answer c.before.before.before
+returns-3 c = sym (ap (λ r. more 1 (said_literal r)) c.before.l.given.1) ∙ answer c.before.before.before
 
 returns-4 : tie.Need-returns-4
-returns-4 c = sym (ap (λ r. more 1 (saidLiteral r)) c.before.e.given.1) ∙ answer c.before.before.before
+returns-4 c = sym (ap (λ r. more 1 (said_literal r)) c.before.e.given.1) ∙ answer c.before.before.before
 
 pub read-literal-spec : {M : Type 1} → statement M
 read-literal-spec =

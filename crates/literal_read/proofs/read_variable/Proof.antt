@@ -7,7 +7,7 @@ use lib.ListN.{drop, length-drop}
 use Rattle.definitions.specs.Reader.{more}
 use Rattle.definitions.specs.Text.{digits, variable}
 use Rattle.definitions.proofs.Parts.{part-is}
-use Rattle.literal_read.specs.Said.{saidLiteral}
+use Rattle.literal_read.specs.Said.{said_literal}
 use Rattle.literal_read.proofs.Literals.{variable-empty, variable-other, variable-x, digits-within}
 use Rattle.literal_read.proofs.read_variable.Statement.{statement}
 use Rattle.literal_read.proofs.read_variable.Tie as tie
@@ -17,10 +17,10 @@ module _ (c : tie.After-read-digits) where
   abbrev start : tie.Start
   start = c.before.before.before.before.before.before
 
-  behind : saidLiteral c.read-digits.result ≡ digits start.args.options start.args.negated (drop 1 start.args.s.now)
+  behind : said_literal c.read-digits.result ≡ digits start.args.options start.args.negated (drop 1 start.args.s.now)
   behind = c.read-digits.ensures ∙ ap (digits start.args.options start.args.negated) (part-is start.args.s.now 1)
 
-  answer : more 1 (saidLiteral c.read-digits.result) ≡ variable start.args.options start.args.negated start.args.s.now
+  answer : more 1 (said_literal c.read-digits.result) ≡ variable start.args.options start.args.negated start.args.s.now
   answer =
       ap (more 1) behind
       ∙ variable-x start.args.options start.args.negated start.args.s.now
@@ -56,7 +56,7 @@ add-t18 c =
     let s = (start d).args.s.now in
     omega (
       arith,
-      digits-within _ _ (drop 1 s) _ _ (sym (behind d) ∙ ap saidLiteral c.before.l.given.1),
+      digits-within _ _ (drop 1 s) _ _ (sym (behind d) ∙ ap said_literal c.before.l.given.1),
       length-drop 1 s,
       (start d).well-formed.0.0,
     )
@@ -65,10 +65,10 @@ enum-known-e : tie.Need-enum-known-e
 enum-known-e c = search rules
 
 returns-3 : tie.Need-returns-3
-returns-3 c = sym (ap (λ r. more 1 (saidLiteral r)) c.before.l.given.1) ∙ answer c.before.before.before
+returns-3 c = sym (ap (λ r. more 1 (said_literal r)) c.before.l.given.1) ∙ answer c.before.before.before
 
 returns-4 : tie.Need-returns-4
-returns-4 c = sym (ap (λ r. more 1 (saidLiteral r)) c.before.e.given.1) ∙ answer c.before.before.before
+returns-4 c = sym (ap (λ r. more 1 (said_literal r)) c.before.e.given.1) ∙ answer c.before.before.before
 
 pub read-variable-spec : {M : Type 1} → statement M
 read-variable-spec =

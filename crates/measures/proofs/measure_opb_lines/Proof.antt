@@ -3,17 +3,17 @@ use native.Mathlib.Omega.{arith}
 use borrow.Author.Rules.{rules}
 use mathlib.Core.Path.{◌≡◌, ap, ◌∙◌}
 use Prim.Native.Nat.{◌-◌, ◌<◌}
-use Rattle.definitions.specs.Table.{Table, table, rowRoom}
+use Rattle.definitions.specs.Table.{Table, table, row_room}
 use Rattle.measures.proofs.Counting.{Counting, counting-none, counting-refused, counting_more, counting-all}
 use lib.IntN.{ℤ, pos}
 use lib.ListN.{get_or}
 use mir.Syntax.{w64}
 use mir.Val.{SFits}
 use mir.Facts.{to_z-of_z}
-use Rattle.definitions.specs.Write.{writtenIn}
+use Rattle.definitions.specs.Write.{written_in}
 use Rattle.columns.proofs.EntryLaws.{entry_at}
-use Rattle.measures.specs.Rows.{measured, saidMeasured}
-use Rattle.printed.specs.Rows.{entry_of, onColumns}
+use Rattle.measures.specs.Rows.{measured, said_measured}
+use Rattle.printed.specs.Rows.{entry_of, on_columns}
 use Rattle.measures.proofs.measure_opb_lines.Statement.{statement}
 use Rattle.measures.proofs.measure_opb_lines.Tie as tie
 
@@ -35,7 +35,7 @@ module _ (c : tie.In-loop invariant-loop decreases-loop) where
   rows_of = table start.args.kinds.now start.args.firsts.now start.args.counts.now start.args.bounds.now
       start.args.weights.now start.args.literals.now
 
-  below : turn.loop.row < rowRoom rows_of
+  below : turn.loop.row < row_room rows_of
   below = omega (arith, c.loop-test.true, turn.before.row_room.ensures)
 
 module _ (c : tie.After-entry-length invariant-loop decreases-loop) where
@@ -48,14 +48,14 @@ module _ (c : tie.After-entry-length invariant-loop decreases-loop) where
   bound-fits : SFits w64 (get_or args_of.args.bounds.now (turn looped).loop.row (pos 0))
   bound-fits = record { sfits = c.before.entry-length-arg.given }
 
-  said : saidMeasured c.entry_length.result
-      ≡ measured args_of.args.mode (writtenIn args_of.args.mode
-      (onColumns args_of.args.weights.now args_of.args.literals.now) args_of.args.text.now
+  said : said_measured c.entry_length.result
+      ≡ measured args_of.args.mode (written_in args_of.args.mode
+      (on_columns args_of.args.weights.now args_of.args.literals.now) args_of.args.text.now
       (entry_at (rows_of looped) (turn looped).loop.row))
   said =
       c.entry_length.ensures
       ∙ ap (λ (b : ℤ). measured args_of.args.mode
-      (writtenIn args_of.args.mode (onColumns args_of.args.weights.now args_of.args.literals.now)
+      (written_in args_of.args.mode (on_columns args_of.args.weights.now args_of.args.literals.now)
       args_of.args.text.now
       (entry_of (get_or args_of.args.kinds.now (turn looped).loop.row 0)
       (get_or args_of.args.firsts.now (turn looped).loop.row 0) (get_or args_of.args.counts.now (turn looped).loop.row 0)
@@ -105,8 +105,8 @@ returns c =
     let d = c.before.before.before in
     let l = looped d in
     counting-refused (args_of d).args.mode (rows_of l) (args_of d).args.text.now (turn l).loop.inv (below l)
-    (saidMeasured d.entry_length.result) (said d)
-    _ (ap saidMeasured c.before.number.given.1)
+    (said_measured d.entry_length.result) (said d)
+    _ (ap said_measured c.before.number.given.1)
 
 add_row : tie.Need-overflow-add-row invariant-loop decreases-loop
 add_row c = omega (arith, below (looped c.before.before.before.before), (start (looped c.before.before.before.before)).good)
@@ -119,8 +119,8 @@ loop-again c =
     let d = c.before.before.before.before in
     let l = looped d in
     counting_more (args_of d).args.mode (rows_of l) (args_of d).args.text.now (turn l).loop.inv (below l)
-    (saidMeasured d.entry_length.result) (said d)
-    _ _ (ap saidMeasured c.before.before.more.given.1) c.add-extent.ensures
+    (said_measured d.entry_length.result) (said d)
+    _ _ (ap said_measured c.before.before.more.given.1) c.add-extent.ensures
 
 returns-2 : tie.Need-returns-2 invariant-loop decreases-loop
 returns-2 c =

@@ -10,7 +10,7 @@ use lib.Dec.{leb}
 use lib.ListN.{length}
 use mir.Facts.{to_z-of_z}
 use Rattle.definitions.specs.declared.Entry.{Entry}
-use Rattle.normal_checks.specs.FirstWalk.{termCount}
+use Rattle.normal_checks.specs.FirstWalk.{term_count}
 use Rattle.normal_checks.proofs.Entries.{of-comment, of-unread, of-outside, check-inside}
 use Rattle.normal_checks.proofs.check_row.Statement.{statement}
 use Rattle.normal_checks.proofs.check_row.Tie as tie
@@ -43,12 +43,12 @@ ends c =
 returns : tie.Need-returns
 returns c =
     let s = c.before.before in
-    sym (ap termCount (of-comment s.args.weights.now s.args.literals.now (entry s) c.if1.true))
+    sym (ap term_count (of-comment s.args.weights.now s.args.literals.now (entry s) c.if1.true))
 
 returns-2 : tie.Need-returns-2
 returns-2 c =
     let s = c.before.before.before in
-    sym (ap termCount (of-unread s.args.weights.now s.args.literals.now (entry s) c.if2.true))
+    sym (ap term_count (of-unread s.args.weights.now s.args.literals.now (entry s) c.if2.true))
 
 term-room-requires : tie.Need-term-room-requires
 term-room-requires c κs = search rules
@@ -60,7 +60,7 @@ returns-3 : tie.Need-returns-3
 returns-3 c =
     let d = c.before in
     let s = start d in
-    sym (ap termCount
+    sym (ap term_count
     (of-outside s.args.weights.now s.args.literals.now (entry s) d.before.before.before.if1.false
     d.before.before.if2.false
     (sym (tested d) ∙ not-true _ c.if3.true)))

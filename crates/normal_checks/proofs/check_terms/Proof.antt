@@ -10,11 +10,11 @@ use lib.IntN.{◌+ℤ◌}
 use mir.Syntax.{w64}
 use mir.Val.{SFits}
 use mir.Facts.{to_z-of_z}
-use Rattle.definitions.specs.Limits.{weightLimit, inI64}
+use Rattle.definitions.specs.Limits.{weight_limit, in_i64}
 use Rattle.definitions.specs.declared.Kind.{Kind}
-use Rattle.term_checks.specs.TermTests.{codesIndexed, weightSizes}
-use Rattle.columns.specs.Kinds.{readKind}
-use Rattle.shifts.specs.Shifts.{weightRises, shift_by, shift_of}
+use Rattle.term_checks.specs.TermTests.{codes_indexed, weight_sizes}
+use Rattle.columns.specs.Kinds.{read_kind}
+use Rattle.shifts.specs.Shifts.{weight_rises, shift_by, shift_of}
 use Rattle.shifts.proofs.Rises.{shift-whole}
 use Rattle.normal_checks.proofs.Checks.{terms-unindexed, terms-large, terms-beyond, terms-accepted}
 use Rattle.normal_checks.proofs.check_terms.Statement.{statement}
@@ -28,10 +28,10 @@ start-1 c = c.before.before.before
 abbrev start-2 : tie.Else2 → tie.Start
 start-2 c = start-1 c.before.before
 
-indexes : (c : tie.Else1) → codesIndexed (start-1 c).args.literals.now ≡ true
+indexes : (c : tie.Else1) → codes_indexed (start-1 c).args.literals.now ≡ true
 indexes c = sym c.before.Indexed-of.ensures ∙ not-false _ c.if1.false
 
-small : (c : tie.Else2) → weightSizes (start-2 c).args.weights.now ≤ weightLimit
+small : (c : tie.Else2) → weight_sizes (start-2 c).args.weights.now ≤ weight_limit
 small c = omega (arith, c.before.sizes-of.ensures)
 
 -- what is said of the bound
@@ -41,7 +41,7 @@ module _ (c : tie.After-sum-fits) where
 
   abbrev bounded : Bool
   bounded =
-      let a = (start-2 left).args in inI64 (a.bound +ℤ shift_by (readKind a.kind) (weightRises a.weights.now))
+      let a = (start-2 left).args in in_i64 (a.bound +ℤ shift_by (read_kind a.kind) (weight_rises a.weights.now))
 
   tested : c.sum-fits.result ≡ bounded
   tested =
@@ -49,9 +49,9 @@ module _ (c : tie.After-sum-fits) where
       let d = c.before in
       let ws = s.args.weights.now in
       let f : SFits w64 d.Shift-of.result = record { sfits = d.Shift-of.type-inv } in
-      let e : d.Shift-of.result ≡ shift_by (readKind s.args.kind) (weightRises ws) =
+      let e : d.Shift-of.result ≡ shift_by (read_kind s.args.kind) (weight_rises ws) =
       d.Shift-of.ensures ∙ ap (λ (k : Kind). shift_of k ws) d.before.read-kind.ensures
-      ∙ shift-whole (readKind s.args.kind) ws (small left) in
+      ∙ shift-whole (read_kind s.args.kind) ws (small left) in
       rw (to_z-of_z s.fits.bound, to_z-of_z f, e) at c.sum-fits.ensures
 
 indexed-of-requires : tie.Need-indexed-of-requires

@@ -9,12 +9,12 @@ use lib.ListN.{get_or}
 use mir.Syntax.{w64}
 use mir.Val.{SFits}
 use mir.Facts.{to_z-of_z}
-use Rattle.definitions.specs.Answers.{saidCounted}
-use Rattle.definitions.specs.Table.{Table, table, rowRoom}
-use Rattle.definitions.specs.Normal.{normalIn}
+use Rattle.definitions.specs.Answers.{said_counted}
+use Rattle.definitions.specs.Table.{Table, table, row_room}
+use Rattle.definitions.specs.Normal.{normal_in}
 use Rattle.columns.proofs.EntryLaws.{entry_at}
-use Rattle.normal_checks.specs.FirstWalk.{termCount}
-use Rattle.normal_checks.specs.Said.{saidRow}
+use Rattle.normal_checks.specs.FirstWalk.{term_count}
+use Rattle.normal_checks.specs.Said.{said_row}
 use Rattle.normal_checks.proofs.Checks.{Counts, counts-none, counts_all, counts-refused, counts-more, checked-in}
 use Rattle.normal_checks.proofs.count_rows.Statement.{statement}
 use Rattle.normal_checks.proofs.count_rows.Tie as tie
@@ -36,7 +36,7 @@ lent c =
     let a = (start c).args in
     table a.kinds.now a.firsts.now a.counts.now a.bounds.now a.weights.now a.literals.now
 
-below : (c : tie.In-loop invariant-loop decreases-loop) → c.before.loop.i < rowRoom (lent c.before)
+below : (c : tie.In-loop invariant-loop decreases-loop) → c.before.loop.i < row_room (lent c.before)
 below c = omega (arith, c.loop-test.true, c.before.before.row_room.ensures)
 
 abbrev turn : tie.After-check-row invariant-loop decreases-loop → tie.In-loop invariant-loop decreases-loop
@@ -44,12 +44,12 @@ turn c = c.before.before.before.before.before
 
 -- what is said of the row
 checked : (c : tie.After-check-row invariant-loop decreases-loop)
-    → saidRow c.check-row.result
-    ≡ termCount (normalIn (lent (turn c).before) (entry_at (lent (turn c).before) (turn c).before.loop.i))
+    → said_row c.check-row.result
+    ≡ term_count (normal_in (lent (turn c).before) (entry_at (lent (turn c).before) (turn c).before.loop.i))
 checked c =
     let l = (turn c).before in
     let f : SFits w64 (get_or (lent l).bounds l.loop.i (pos 0)) = record { sfits = c.before.check-row-arg.given } in
-    checked-in (lent l) (entry_at (lent l) l.loop.i) (saidRow c.check-row.result) (rw (to_z-of_z f) at c.check-row.ensures)
+    checked-in (lent l) (entry_at (lent l) l.loop.i) (said_row c.check-row.result) (rw (to_z-of_z f) at c.check-row.ensures)
 
 row-room-requires : tie.Need-row-room-requires invariant-loop decreases-loop
 row-room-requires c κs = search rules
@@ -92,9 +92,9 @@ returns c =
     let k = c.before in
     let d = k.before.before.before in
     let l = (turn d).before in
-    ap saidCounted c.refused.ensures
+    ap said_counted c.refused.ensures
     ∙ counts-refused (lent l) l.loop.i l.loop.terms l.loop.inv.1 (below (turn d)) _
-    (ap saidRow (sym k.before.number.given.1) ∙ checked d)
+    (ap said_row (sym k.before.number.given.1) ∙ checked d)
 
 enum-known-n : tie.Need-enum-known-n invariant-loop decreases-loop
 enum-known-n c = search rules
@@ -115,13 +115,13 @@ loop-again c =
       omega (arith, (turn d).loop-test.true),
       rw c.add-needed.ensures
           (counts-more (lent l) l.loop.i l.loop.terms l.loop.inv.1 (below (turn d)) _
-          (ap saidRow (sym c.before.before.n.given.1) ∙ checked d)),
+          (ap said_row (sym c.before.before.n.given.1) ∙ checked d)),
     )
 
 returns-2 : tie.Need-returns-2 invariant-loop decreases-loop
 returns-2 c =
     let l = c.before in
-    let e : l.before.row_room.result ≡ rowRoom (lent l) = l.before.row_room.ensures in
+    let e : l.before.row_room.result ≡ row_room (lent l) = l.before.row_room.ensures in
     rw e (counts_all (lent l) l.loop.i l.loop.terms l.loop.invariant.1 (omega (arith, c.loop-test.false))
     (omega (arith, l.loop.invariant.0)))
 

@@ -4,10 +4,10 @@ use mathlib.Core.Path.{◌≡◌, sym, ap, ap₂, ◌∙◌}
 use Prim.Native.Nat.{ℕ}
 use native.Mathlib.Omega.{arith}
 use borrow.Author.Rules.{rules}
-use Rattle.definitions.specs.Answers.{saidCounted}
-use Rattle.definitions.specs.Table.{Table, table, rowRoom, termRoom}
+use Rattle.definitions.specs.Answers.{said_counted}
+use Rattle.definitions.specs.Table.{Table, table, row_room, term_room}
 use Rattle.definitions.specs.declared.Counted.{Counted}
-use Rattle.normal_checks.specs.FirstWalk.{normalRows, totalsNeeded, totalsWithin}
+use Rattle.normal_checks.specs.FirstWalk.{normal_rows, totals_needed, totals_within}
 use Rattle.normal_checks.proofs.MeasuredAnswers.{measured-refused, measured-within}
 use Rattle.normal_checks.proofs.measure_normal.Statement.{statement}
 use Rattle.normal_checks.proofs.measure_normal.Tie as tie
@@ -27,8 +27,8 @@ module _ (c : tie.After-count-rows) where
       table a.outkinds.now a.outfirsts.now a.outcounts.now a.outbounds.now a.outweights.now a.outliterals.now
 
   -- what the walk counted
-  walked : (r : Counted) → c.count-rows.result ≡ r → saidCounted r ≡ totalsNeeded (normalRows lent)
-  walked r e = sym (ap saidCounted e) ∙ c.count-rows.ensures
+  walked : (r : Counted) → c.count-rows.result ≡ r → said_counted r ≡ totals_needed (normal_rows lent)
+  walked r e = sym (ap said_counted e) ∙ c.count-rows.ensures
 
 count-rows-requires : tie.Need-count-rows-requires
 count-rows-requires c κs = search rules
@@ -58,10 +58,10 @@ returns-2 c =
     let k = r.before in
     let p = k.before in
     let d = p.before.before in
-    let rows : r.row_room.result ≡ rowRoom (given d) = r.row_room.ensures in
-    let terms : t.term-room.result ≡ termRoom (given d) = t.term-room.ensures in
+    let rows : r.row_room.result ≡ row_room (given d) = r.row_room.ensures in
+    let terms : t.term-room.result ≡ term_room (given d) = t.term-room.ensures in
     c.within.ensures
-    ∙ ap₂ (λ (n m : ℕ). totalsWithin n m p.totals.given.0.0) rows terms
+    ∙ ap₂ (λ (n m : ℕ). totals_within n m p.totals.given.0.0) rows terms
     ∙ measured-within (lent d) (given d) (omega (arith, (start d).well-formed)) p.totals.given.0.0 (omega (arith, k.known-told2.given))
     (walked d _ p.totals.given.1)
 

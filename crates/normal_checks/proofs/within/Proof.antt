@@ -2,7 +2,7 @@
 use mathlib.Core.Path.{ap, ◌∙◌}
 use native.Mathlib.Omega.{arith}
 use borrow.Author.Rules.{rules}
-use Rattle.definitions.specs.Answers.{saidCounted}
+use Rattle.definitions.specs.Answers.{said_counted}
 use Rattle.normal_checks.proofs.MeasuredAnswers.{within-rows, within-terms, within_all}
 use Rattle.normal_checks.proofs.within.Statement.{statement}
 use Rattle.normal_checks.proofs.within.Tie as tie
@@ -14,7 +14,7 @@ returns : tie.Need-returns
 returns c =
     let b = c.before in
     let a = b.before.before.args in
-    ap saidCounted c.refused.ensures ∙ within-rows a.rows a.terms a.totals (omega (arith, b.if1.true))
+    ap said_counted c.refused.ensures ∙ within-rows a.rows a.terms a.totals (omega (arith, b.if1.true))
 
 refused-requires-2 : tie.Need-refused-requires-2
 refused-requires-2 c κs = search rules
@@ -24,7 +24,7 @@ returns-2 c =
     let b = c.before in
     let e = b.before.before in
     let a = e.before.before.args in
-    ap saidCounted c.refused2.ensures
+    ap said_counted c.refused2.ensures
     ∙ within-terms a.rows a.terms a.totals (omega (arith, e.if1.false)) (omega (arith, b.if2.true))
 
 returns-3 : tie.Need-returns-3

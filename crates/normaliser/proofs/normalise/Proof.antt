@@ -2,7 +2,7 @@
 -- Assumes nothing.
 use mathlib.Core.Path.{◌≡◌, sym, ap, ◌∙◌}
 use borrow.Author.Rules.{rules}
-use Rattle.definitions.specs.Answers.{saidCounted}
+use Rattle.definitions.specs.Answers.{said_counted}
 use Rattle.definitions.specs.Normal.{normalising}
 use Rattle.definitions.specs.Table.{Table, table, counted}
 use Rattle.definitions.specs.declared.Counted.{Counted}
@@ -25,8 +25,8 @@ module _ (c : tie.After-measure-normal) where
       table a.outkinds.now a.outfirsts.now a.outcounts.now a.outbounds.now a.outweights.now a.outliterals.now
 
   -- the answer that was measured
-  measured : (r : Counted) → c.measure-normal.result ≡ r → saidCounted r ≡ counted (normalising lent given)
-  measured r e = sym (ap saidCounted e) ∙ c.measure-normal.ensures
+  measured : (r : Counted) → c.measure-normal.result ≡ r → said_counted r ≡ counted (normalising lent given)
+  measured r e = sym (ap said_counted e) ∙ c.measure-normal.ensures
 
 measure-normal-requires : tie.Need-measure-normal-requires
 measure-normal-requires c κs = search rules

@@ -8,7 +8,7 @@ use borrow.Author.Rules.{rules}
 use lib.ListN.{length}
 use Rattle.definitions.specs.declared.Options.{Options}
 use Rattle.definitions.proofs.SameAnswers.{Forward}
-use Rattle.walker.specs.Said.{saidStepped}
+use Rattle.walker.specs.Said.{said_stepped}
 use Rattle.walker.proofs.StepAnswers.{told-forward}
 use Rattle.opbwalk.proofs.print_statements.Statement.{statement}
 use Rattle.opbwalk.proofs.print_statements.Tie as tie
@@ -36,7 +36,7 @@ module _ (c : tie.After-known-told invariant-loop decreases-loop) where
 
   onward : Forward options text turn.loop.at told.entry.given.0.1.0
   onward =
-      told-forward options text turn.loop.at _ _ (sym (ap saidStepped told.entry.given.1) ∙ told.before.before.step-at.ensures)
+      told-forward options text turn.loop.at _ _ (sym (ap said_stepped told.entry.given.1) ∙ told.before.before.step-at.ensures)
 
 loop-holds : tie.Need-loop-init invariant-loop decreases-loop
 loop-holds c = (refl, refl, refl)

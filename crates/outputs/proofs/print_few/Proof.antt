@@ -9,7 +9,7 @@ use Prim.Native.Nat.{◌+◌, ◌≤◌}
 use lib.ListN.{length, length-set}
 use Rattle.definitions.specs.Number.{decimal}
 use Rattle.definitions.proofs.Numbers.{decimal-length-most}
-use Rattle.outputs.specs.Print.{signedText}
+use Rattle.outputs.specs.Print.{signed_text}
 use Rattle.lengths.proofs.DigitPlaces.{last-place}
 use Rattle.outputs.proofs.PrintLaws.{refused, has_room, signed-counted, signed-done}
 use Rattle.outputs.proofs.print_few.Statement.{statement}
@@ -34,7 +34,7 @@ module _ (c : tie.Joined1) where
   sign : c.if1.k ≡ cond (start places).args.negative 1 0
   sign = ⊎_elim (λ w. rw w.0.taken w.1) (λ w. rw w.0.left w.1) c.if1.branch
 
-  counted : places.places_of.result.ones + 1 + c.if1.k ≡ length (signedText (start places).args.negative (start places).args.m)
+  counted : places.places_of.result.ones + 1 + c.if1.k ≡ length (signed_text (start places).args.negative (start places).args.m)
   counted = signed-counted (start places).args.negative (start places).args.m _ _ sign (digits places)
 
   short : c.if1.k ≤ 1
@@ -47,7 +47,7 @@ room c =
     let j = c.before.before.before in
     let a = (start (places j)).args in
     let r = c.before.has_room in
-    has_room (signedText a.negative a.m) a.at a.out.now _ (counted j) r.result r.ensures c.if2.false
+    has_room (signed_text a.negative a.m) a.at a.out.now _ (counted j) r.result r.ensures c.if2.false
 
 places-of-requires : tie.Need-places-of-requires
 places-of-requires c κs = search rules
@@ -66,7 +66,7 @@ returns c =
     let j = c.before.before.before in
     let a = (start (places j)).args in
     let r = c.before.has_room in
-    refused (signedText a.negative a.m) a.at a.out.now _ (counted j) r.result r.ensures c.if2.true
+    refused (signed_text a.negative a.m) a.at a.out.now _ (counted j) r.result r.ensures c.if2.true
 
 slice-write-out : tie.Need-slice-write-out
 slice-write-out c = omega (arith, room c)

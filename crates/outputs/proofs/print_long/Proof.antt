@@ -8,7 +8,7 @@ use mathlib.Core.Logic.{⊎_elim}
 use Prim.Native.Nat.{◌+◌, ◌≤◌}
 use lib.ListN.{length, length-set}
 use Rattle.definitions.proofs.Numbers.{decimal-some}
-use Rattle.outputs.specs.Print.{signedText}
+use Rattle.outputs.specs.Print.{signed_text}
 use Rattle.laws.proofs.Digits.{count-length-most}
 use Rattle.outputs.proofs.PrintLaws.{refused, has_room, signed-counted, signed-done}
 use Rattle.outputs.proofs.print_long.Statement.{statement}
@@ -22,7 +22,7 @@ module _ (c : tie.Joined1) where
   sign : c.if1.k ≡ cond start.args.negative 1 0
   sign = ⊎_elim (λ w. rw w.0.taken w.1) (λ w. rw w.0.left w.1) c.if1.branch
 
-  counted : c.before.count-length.result + c.if1.k ≡ length (signedText start.args.negative start.args.m)
+  counted : c.before.count-length.result + c.if1.k ≡ length (signed_text start.args.negative start.args.m)
   counted = signed-counted start.args.negative start.args.m _ _ sign c.before.count-length.ensures
 
   few : c.before.count-length.result + c.if1.k ≤ 21
@@ -38,7 +38,7 @@ room c =
     let j = c.before.before.before in
     let a = (start j).args in
     let r = c.before.has_room in
-    has_room (signedText a.negative a.m) a.at a.out.now _ (counted j) r.result r.ensures c.if2.false
+    has_room (signed_text a.negative a.m) a.at a.out.now _ (counted j) r.result r.ensures c.if2.false
 
 count-length-requires : tie.Need-count-length-requires
 count-length-requires c κs = search rules
@@ -54,7 +54,7 @@ returns c =
     let j = c.before.before.before in
     let a = (start j).args in
     let r = c.before.has_room in
-    refused (signedText a.negative a.m) a.at a.out.now _ (counted j) r.result r.ensures c.if2.true
+    refused (signed_text a.negative a.m) a.at a.out.now _ (counted j) r.result r.ensures c.if2.true
 
 slice-write-out : tie.Need-slice-write-out
 slice-write-out c =

@@ -4,8 +4,8 @@ use mathlib.Core.Path.{◌≡◌, ap, ◌∙◌}
 use lib.IntN.{nat_abs, pos}
 use lib.Signed.{lt_z}
 use mir.Facts.{to_z-of_z}
-use Rattle.definitions.specs.Number.{integerText}
-use Rattle.outputs.specs.Print.{signedText}
+use Rattle.definitions.specs.Number.{integer_text}
+use Rattle.outputs.specs.Print.{signed_text}
 use Rattle.outputs.proofs.PrintLaws.{integer-is}
 use Rattle.outputs.proofs.print_number.Statement.{statement}
 use Rattle.outputs.proofs.print_number.Tie as tie
@@ -18,8 +18,8 @@ module _ (c : tie.After-magnitude) where
   size : c.magnitude.result ≡ nat_abs start.args.value
   size = c.magnitude.ensures ∙ ap nat_abs (to_z-of_z start.fits.value)
 
-  text : signedText (lt_z start.args.value (pos 0)) c.magnitude.result ≡ integerText start.args.value
-  text = ap (signedText (lt_z start.args.value (pos 0))) size ∙ integer-is start.args.value
+  text : signed_text (lt_z start.args.value (pos 0)) c.magnitude.result ≡ integer_text start.args.value
+  text = ap (signed_text (lt_z start.args.value (pos 0))) size ∙ integer-is start.args.value
 
 magnitude-requires : tie.Need-magnitude-requires
 magnitude-requires c κs = search rules

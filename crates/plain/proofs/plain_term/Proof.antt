@@ -1,11 +1,11 @@
--- `plain_term` meets its contract: each of its tests is one of `plainAt`'s (proofs/PlainAnswers.antt).
+-- `plain_term` meets its contract: each of its tests is one of `plain_at`'s (proofs/PlainAnswers.antt).
 use Prim.Native.Nat.{ℕ, ◌+◌, ◌≤◌}
 use mathlib.Core.List.{List}
 use mathlib.Core.Path.{◌≡◌, refl, sym, ap, ◌∙◌}
 use native.Mathlib.Omega.{arith}
 use borrow.Author.Rules.{rules}
 use lib.ListN.{length}
-use Rattle.plain_parts.specs.PartForms.{saidWeight, saidLiteral, literalAt}
+use Rattle.plain_parts.specs.PartForms.{said_weight, said_literal, literal_at}
 use Rattle.plain_parts.proofs.PartAnswers.{WeightHere, weight-here, LiteralHere, literal-here}
 use Rattle.plain.specs.Plain.{behind}
 use Rattle.plain.proofs.PlainAnswers.{too_short, first_above, no-weight, gap-short, literal-part, no-literal, long-short, two-blanks}
@@ -33,7 +33,7 @@ module _ (c : tie.After-negative) where
   gap = c.negative.given.0.1.1.0
 
   weight : WeightHere (text fits) c.negative.given.0.0 c.negative.given.0.1.0 gap
-  weight = weight-here (text fits) _ _ _ (ap saidWeight (sym c.negative.given.1) ∙ c.before.before.plain-weight.ensures)
+  weight = weight-here (text fits) _ _ _ (ap said_weight (sym c.negative.given.1) ∙ c.before.before.plain-weight.ensures)
 
   room : gap + 1 + 8 ≤ length (text fits)
   room = omega (arith, gap-short (text fits) weight, long fits)
@@ -43,8 +43,8 @@ module _ (c : tie.After-plain-literal) where
   abbrev read : tie.After-negative
   read = c.before.before.before
 
-  said : saidLiteral c.plain-literal.result ≡ literalAt (behind (text (fits read)))
-  said = c.plain-literal.ensures ∙ ap literalAt (literal-part (text (fits read)) (weight read))
+  said : said_literal c.plain-literal.result ≡ literal_at (behind (text (fits read)))
+  said = c.plain-literal.ensures ∙ ap literal_at (literal-part (text (fits read)) (weight read))
 
 module _ (c : tie.After-negated) where
   abbrev lits : tie.After-plain-literal
@@ -54,7 +54,7 @@ module _ (c : tie.After-negated) where
   taken = c.negated.given.0.1.1.0
 
   lit : LiteralHere (behind (text (fits (read lits)))) c.negated.given.0.0 c.negated.given.0.1.0 taken
-  lit = literal-here _ _ _ _ (ap saidLiteral (sym c.negated.given.1) ∙ said lits)
+  lit = literal-here _ _ _ _ (ap said_literal (sym c.negated.given.1) ∙ said lits)
 
   ends : gap (read lits) + taken + 2 ≤ 16
   ends =
@@ -81,7 +81,7 @@ returns-3 : tie.Need-returns-3
 returns-3 c =
     let w = c.before.before in
     let f = w.before in
-    no-weight _ (text f) (long f) (first f) (ap saidWeight (sym c.enum_told.given.1) ∙ w.plain-weight.ensures)
+    no-weight _ (text f) (long f) (first f) (ap said_weight (sym c.enum_told.given.1) ∙ w.plain-weight.ensures)
 
 add-plain-literal : tie.Need-overflow-add-plain-literal
 add-plain-literal c = let w = c.before in omega (arith, gap-short (text (fits w)) (weight w))
@@ -109,7 +109,7 @@ returns-4 c =
     let l = c.before.before in
     let w = read l in
     let f = fits w in
-    no-literal (text f) (weight w) _ (long f) (first f) (ap saidLiteral (sym c.enum-told2.given.1) ∙ said l)
+    no-literal (text f) (weight w) _ (long f) (first f) (ap said_literal (sym c.enum-told2.given.1) ∙ said l)
 
 add-taken : tie.Need-overflow-add-taken
 add-taken c = omega (arith, ends c.before)

@@ -1,4 +1,4 @@
--- `plain_literal` meets its contract: each of its tests is one of `literalAt`'s (proofs/PartAnswers.antt).
+-- `plain_literal` meets its contract: each of its tests is one of `literal_at`'s (proofs/PartAnswers.antt).
 use mathlib.Core.List.{List}
 use mathlib.Core.Path.{subst}
 use Prim.Native.Nat.{ℕ}

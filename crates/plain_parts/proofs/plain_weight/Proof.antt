@@ -1,4 +1,4 @@
--- `plain_weight` meets its contract: each of its tests is one of `weightAt`'s (proofs/PartAnswers.antt).
+-- `plain_weight` meets its contract: each of its tests is one of `weight_at`'s (proofs/PartAnswers.antt).
 use mathlib.Core.List.{List}
 use mathlib.Core.Path.{subst}
 use Prim.Native.Nat.{ℕ}

@@ -3,9 +3,9 @@
 use mathlib.Core.Path.{◌≡◌, refl, sym, ap, ◌∙◌}
 use Prim.Native.Nat.{ℕ}
 use lib.ListN.{length}
-use Rattle.definitions.specs.Table.{Table, table, totalsOf}
+use Rattle.definitions.specs.Table.{Table, table, totals_of}
 use Rattle.definitions.specs.Write.{writing}
-use Rattle.foreseen.specs.Returning.{back, returning, saidReturned}
+use Rattle.foreseen.specs.Returning.{back, returning, said_returned}
 use Rattle.promise.proofs.Laws.{not_written, not-read, text-within, part_length, came-back}
 use borrow.Author.Rules.{rules}
 use Rattle.promise.proofs.there_and_back.Statement.{statement}
@@ -41,10 +41,10 @@ module _ (c : tie.After-length) where
   abbrev k : ℕ
   k = c.length.given.0.1.1.0
 
-  comes : back l (totalsOf n k)
+  comes : back l (totals_of n k)
       ≡ returning (start seen).args.mode (new-of seen)
       (writing (start seen).args.mode (rows_of seen) (start seen).args.text.now (length (start seen).args.out.now))
-  comes = sym (ap saidReturned c.length.given.1) ∙ seen.foresee.ensures
+  comes = sym (ap said_returned c.length.given.1) ∙ seen.foresee.ensures
 
 foresee-requires : tie.Need-foresee-requires
 foresee-requires c κs = tt
@@ -106,7 +106,7 @@ returns c =
     let d = c.before.before.before in
     let s = start d in
     not_written s.args.mode (rows_of d) s.args.text.now s.args.out.now (new-of d) _
-    (sym (ap saidReturned c.before.r.given.1) ∙ d.foresee.ensures)
+    (sym (ap said_returned c.before.r.given.1) ∙ d.foresee.ensures)
 
 same-length-8 : tie.Need-same-length-8
 same-length-8 c = refl
@@ -134,7 +134,7 @@ returns-2 c =
     let d = c.before.before.before in
     let s = start d in
     not-read s.args.mode (rows_of d) s.args.text.now s.args.out.now (new-of d) _
-    (sym (ap saidReturned c.before.r2.given.1) ∙ d.foresee.ensures)
+    (sym (ap said_returned c.before.r2.given.1) ∙ d.foresee.ensures)
 
 same-length-15 : tie.Need-same-length-15
 same-length-15 c = search rules

@@ -4,7 +4,7 @@ use mathlib.Core.Path.{sym, ap, ◌∙◌}
 use Prim.Native.Nat.{◌+◌, ◌≤◌}
 use lib.ListN.{length}
 use Rattle.definitions.specs.Refusal.{refusal, accept}
-use Rattle.definitions.specs.House.{refusedLine}
+use Rattle.definitions.specs.House.{refused_line}
 use Rattle.laws.proofs.Puts.{put-at-fits, put-in-fits, put-at-full, put-in-full}
 use borrow.Author.Rules.{rules}
 use Rattle.refusals.proofs.list_refusal.Statement.{statement}
@@ -33,7 +33,7 @@ returns-2 c =
     let p = c.before.before in
     let d = p.before.before.before in
     let s = d.before.before in
-    let h : 0 + length (refusedLine (refusal s.args.number s.args.place)) ≤ length s.args.out.now = omega
+    let h : 0 + length (refused_line (refusal s.args.number s.args.place)) ≤ length s.args.out.now = omega
     (arith, d.refusal-length.ensures, p.before.before.if1.false) in
     record {
       answer = ap accept p.put-refusal.ensures.place

@@ -6,7 +6,7 @@ use Prim.Native.Nat.{ℕ, ◌+◌, ◌≤◌}
 use lib.ListN.{length, set, length-set}
 use Rattle.definitions.specs.Bytes.{lf}
 use Rattle.definitions.specs.Number.{decimal}
-use Rattle.definitions.specs.House.{field, refusedLine}
+use Rattle.definitions.specs.House.{field, refused_line}
 use Rattle.laws.proofs.Puts.{Puts, front-room, rest-room, puts_then, puts-byte, puts-length}
 use Rattle.puts.proofs.LandLaws.{lands}
 use borrow.Author.Rules.{rules}
@@ -16,8 +16,8 @@ use Rattle.refusals.proofs.put_refusal.Statement.{statement}
 use Rattle.refusals.proofs.put_refusal.Tie as tie
 
 -- `refused`
-abbrev refusedWord : List ℕ
-refusedWord = 114 ∷ 101 ∷ 102 ∷ 117 ∷ 115 ∷ 101 ∷ 100 ∷ []
+abbrev refused_word : List ℕ
+refused_word = 114 ∷ 101 ∷ 102 ∷ 117 ∷ 115 ∷ 101 ∷ 100 ∷ []
 
 -- what stands behind the word, and behind the number
 abbrev tail₂ : tie.Start → List ℕ
@@ -26,8 +26,8 @@ tail₂ s = field (decimal s.args.place) ++ (lf ∷ [])
 abbrev tail₁ : tie.Start → List ℕ
 tail₁ s = field (decimal s.args.number) ++ tail₂ s
 
-room : (s : tie.Start) → 0 + length (refusedWord ++ tail₁ s) ≤ length s.args.out.now
-unfolding refusedLine
+room : (s : tie.Start) → 0 + length (refused_word ++ tail₁ s) ≤ length s.args.out.now
+unfolding refused_line
 room s = omega (arith, s.requires)
 
 abbrev start : tie.After-put-text → tie.Start
@@ -40,8 +40,8 @@ abbrev number : tie.After-put-field2 → tie.After-put-field
 number c = c.before.before.before.before
 
 -- each fits, so it is put
-text-put : (c : tie.After-put-text) → Puts refusedWord 0 (start c).args.out.now c.put-text.result c.put-text.new.1.0
-text-put c = lands refusedWord 0 _ c.put-text.ensures (front-room refusedWord (tail₁ (start c)) 0 (room (start c)))
+text-put : (c : tie.After-put-text) → Puts refused_word 0 (start c).args.out.now c.put-text.result c.put-text.new.1.0
+text-put c = lands refused_word 0 _ c.put-text.ensures (front-room refused_word (tail₁ (start c)) 0 (room (start c)))
 
 rest₁ : (c : tie.After-put-text) → c.put-text.result + length (tail₁ (start c)) ≤ length c.put-text.new.1.0
 rest₁ c = rest-room (text-put c) (tail₁ (start c)) (room (start c))
@@ -72,10 +72,10 @@ module _ (c : tie.After-put-field2) where
   abbrev s : tie.Start
   s = start (word (number c))
 
-  all-put : Puts (refusedWord ++ tail₁ s) 0 s.args.out.now (c.put-field2.result + 1)
+  all-put : Puts (refused_word ++ tail₁ s) 0 s.args.out.now (c.put-field2.result + 1)
       (set c.put-field2.new.1.0 c.put-field2.result lf)
   all-put =
-      puts_then (text-put (word (number c))) (front-room refusedWord (tail₁ s) _ (room s))
+      puts_then (text-put (word (number c))) (front-room refused_word (tail₁ s) _ (room s))
       (puts_then (number_put (number c)) (front-room (field (decimal s.args.number)) (tail₂ s) _ (rest₁ (word (number c))))
       (puts_then (place-put c) (front-room (field (decimal s.args.place)) (lf ∷ []) _ (rest₂ (number c)))
       (puts-byte lf _ _ _ (omega (arith, rest₃ c)) refl)))
@@ -105,7 +105,7 @@ same_length : tie.Need-same-length
 same_length c = simp length-set (all-long c.before.before)
 
 returns : tie.Need-returns
-returns c = unfold refusedLine in all-put c.before.before
+returns c = unfold refused_line in all-put c.before.before
 
 pub put-refusal-spec : {M : Type 1} → statement M
 put-refusal-spec =

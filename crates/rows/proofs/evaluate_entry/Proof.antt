@@ -9,7 +9,7 @@ use mir.Val.{SFits}
 use mir.Facts.{to_z-of_z}
 use Rattle.definitions.specs.declared.Entry.{Entry}
 use Rattle.assigned.specs.WordsSay.{looked}
-use Rattle.summed.specs.Sums.{saidSummed}
+use Rattle.summed.specs.Sums.{said_summed}
 use Rattle.rows.proofs.RowAnswers.{refused-is, entry-unread, entry-refused, entry-verdict}
 use Rattle.rows.proofs.evaluate_entry.Statement.{statement}
 use Rattle.rows.proofs.evaluate_entry.Tie as tie
@@ -57,7 +57,7 @@ returns-2 c =
     let a = s.args in
     refused-is n.number.given.0.0 _ _ _ c.refused2.ensures
     (entry-refused (entry s) a.weights.now a.literals.now a.all (looked a.words.now) (looked a.known.now) a.ones
-    (omega arith) (omega arith) n.number.given.0.0 (ap saidSummed (sym n.number.given.1) ∙ k.sum_row.ensures))
+    (omega arith) (omega arith) n.number.given.0.0 (ap said_summed (sym n.number.given.1) ∙ k.sum_row.ensures))
 
 returns-3 : tie.Need-returns-3
 returns-3 c =
@@ -68,7 +68,7 @@ returns-3 c =
     let a = s.args in
     let f : SFits w64 n.sum.given.0.0 = record { sfits = t.known-told2.given.0.1 } in
     entry-verdict (entry s) a.weights.now a.literals.now a.all (looked a.words.now) (looked a.known.now) a.ones
-    (omega arith) (omega arith) n.sum.given.0.0 a.row _ _ (ap saidSummed (sym n.sum.given.1) ∙ k.sum_row.ensures)
+    (omega arith) (omega arith) n.sum.given.0.0 a.row _ _ (ap said_summed (sym n.sum.given.1) ∙ k.sum_row.ensures)
     c.before.read-kind.ensures
     (rw (to_z-of_z f, to_z-of_z s.fits.bound) at c.verdict.ensures)
 

@@ -8,7 +8,7 @@ use mir.Val.{SFits}
 use mir.Facts.{to_z-of_z}
 use Rattle.definitions.specs.Table.{Table, table}
 use Rattle.definitions.specs.Meaning.{assigned}
-use Rattle.assigned.specs.WordsSay.{looked, hasBy}
+use Rattle.assigned.specs.WordsSay.{looked, has_by}
 use Rattle.rows.proofs.RowAnswers.{row-missing, row-there}
 use Rattle.rows.proofs.evaluate_row.Statement.{statement}
 use Rattle.rows.proofs.evaluate_row.Tie as tie
@@ -33,7 +33,7 @@ returns c =
     let ks = looked a.known.now in
     rw (
       c.refused.ensures,
-      row-missing (lent s) a.row (hasBy a.all ws ks) (assigned ws) a.ones (omega (arith, k.row_room.ensures)),
+      row-missing (lent s) a.row (has_by a.all ws ks) (assigned ws) a.ones (omega (arith, k.row_room.ensures)),
     )
 
 shared-slice-read-evaluate-entry : tie.Need-shared-slice-read-evaluate-entry

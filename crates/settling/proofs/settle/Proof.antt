@@ -7,26 +7,26 @@ use mathlib.Core.List.{List, map}
 use native.Mathlib.Omega.{arith}
 use lib.ListN.{length, drop}
 use borrow.Author.Rules.{rules}
-use Rattle.definitions.specs.Values.{Item, front, itemsFrom, valued, marked}
+use Rattle.definitions.specs.Values.{Item, front, items_from, valued, marked}
 use Rattle.items.specs.Items.{spot_of}
-use Rattle.settling.specs.Flat.{saidBy, code_in}
+use Rattle.settling.specs.Flat.{said_by, code_in}
 use Rattle.tokens.specs.declared.next.Next.{Next}
 use Rattle.bits.proofs.JoinedLiterals.{length-valued, length_marked}
-use Rattle.settling.proofs.TokenSteps.{step_of, saidNext, Ahead, next-step, settle-ends, settle-refuses, settle-nothing, settle-says}
+use Rattle.settling.proofs.TokenSteps.{step_of, said_next, Ahead, next-step, settle-ends, settle-refuses, settle-nothing, settle-says}
 use Rattle.settling.proofs.settle.Statement.{statement}
 use Rattle.settling.proofs.settle.Tie as tie
 
-abbrev codesFrom : Bool → List Item → List ℕ
-codesFrom named is = map code_in (saidBy named is)
+abbrev codes_from : Bool → List Item → List ℕ
+codes_from named is = map code_in (said_by named is)
 
 -- what is left of the walk makes the rest of the bits
 record Left (block : List ℕ) (named : Bool) (ws ks : List ℕ) (at : ℕ) (opens : Bool) (ws' ks' : List ℕ) : Type 0 where
   within : at ≤ length block
   values_length : length ws' ≡ length ws
   known-length : length ks' ≡ length ks
-  values : valued (codesFrom named (itemsFrom (spot_of opens) at (drop at block))) ws'
-      ≡ valued (codesFrom named (itemsFrom front 0 block)) ws
-  known : marked (codesFrom named (itemsFrom (spot_of opens) at (drop at block))) ks' ≡ marked (codesFrom named (itemsFrom front 0 block)) ks
+  values : valued (codes_from named (items_from (spot_of opens) at (drop at block))) ws'
+      ≡ valued (codes_from named (items_from front 0 block)) ws
+  known : marked (codes_from named (items_from (spot_of opens) at (drop at block))) ks' ≡ marked (codes_from named (items_from front 0 block)) ks
 
 ahead : (r s : Next) (from n : ℕ) → Ahead r from n → r ≡ s → Ahead s from n
 ahead r s from n h q = subst (λ (x : Next). Ahead x from n) q h
@@ -42,17 +42,17 @@ module _ (d : tie.After-next-token invariant-loop decreases-loop) where
   start = d.before.before.before.before.before
 
   abbrev items : List Item
-  items = itemsFrom (spot_of d.before.loop.opens) d.before.loop.at (drop d.before.loop.at start.args.block.now)
+  items = items_from (spot_of d.before.loop.opens) d.before.loop.at (drop d.before.loop.at start.args.block.now)
 
-  taken : (saidNext start.args.block.now d.next-token.result ≡ step_of start.args.named items)
+  taken : (said_next start.args.block.now d.next-token.result ≡ step_of start.args.named items)
       × Ahead d.next-token.result d.before.loop.at (length start.args.block.now)
   taken =
       next-step start.args.named start.args.block.now d.before.loop.opens d.before.loop.at d.next-token.result
       d.next-token.ensures
 
   -- the next token that was met is a step of the items
-  step : (s : Next) → d.next-token.result ≡ s → step_of start.args.named items ≡ saidNext start.args.block.now s
-  step s q = sym taken.0 ∙ ap (saidNext start.args.block.now) q
+  step : (s : Next) → d.next-token.result ≡ s → step_of start.args.named items ≡ said_next start.args.block.now s
+  step s q = sym taken.0 ∙ ap (said_next start.args.block.now) q
 
 -- the token that is made true, and the walk before it
 module _ (c : tie.After-slice-known4 invariant-loop decreases-loop) where

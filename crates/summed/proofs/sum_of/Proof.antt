@@ -12,8 +12,8 @@ use lib.IntN.{ℤ, pos, ◌+ℤ◌}
 use mir.Syntax.{w64}
 use mir.Val.{SFits, to_z, of_z}
 use mir.Facts.{to_z-of_z}
-use Rattle.definitions.specs.Table.{termsOn}
-use Rattle.definitions.specs.Meaning.{isTrue, sum_of, assigned}
+use Rattle.definitions.specs.Table.{terms_on}
+use Rattle.definitions.specs.Meaning.{is_true, sum_of, assigned}
 use Rattle.summed.proofs.Literals.{covered-at}
 use Rattle.summed.proofs.SumLaws.{sum_to, sum-to-in, sum-true, sum-false}
 use Rattle.summed.proofs.sum_of.Statement.{statement}
@@ -26,7 +26,7 @@ abbrev decreases-loop : tie.decreases-loop
 decreases-loop weights literals words sum₀ i₀ sum i = length weights - i
 
 loop-holds : tie.Need-loop-init invariant-loop decreases-loop
-unfolding sum_of termsOn
+unfolding sum_of terms_on
 loop-holds c = (omega arith, refl)
 
 mul-of-code : tie.Need-overflow-mul-of-code invariant-loop decreases-loop
@@ -66,8 +66,8 @@ start-at k = k.before.before.before.before.before.before.before
 -- what the call says of the code that is read
 read-true :
     (k : At) →
-    isTrue (assigned (start-at k).args.words.now) (get_or (start-at k).args.literals.now (i-at k) 0) ≡ k.is_true.result
-read-true k = sym (k.is_true.ensures ∙ ap (isTrue (assigned (start-at k).args.words.now)) k.before.of_code.ensures)
+    is_true (assigned (start-at k).args.words.now) (get_or (start-at k).args.literals.now (i-at k) 0) ≡ k.is_true.result
+read-true k = sym (k.is_true.ensures ∙ ap (is_true (assigned (start-at k).args.words.now)) k.before.of_code.ensures)
 
 -- the sum of the first n terms, which fits
 abbrev total : At → ℕ → ℤ

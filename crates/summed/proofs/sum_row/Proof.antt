@@ -8,7 +8,7 @@ use borrow.Author.Rules.{rules}
 use borrow.Author.Tests.{not-true, not-false, leb-true}
 use lib.Dec.{leb}
 use lib.ListN.{length, length-take}
-use Rattle.definitions.specs.Limits.{wordLimit}
+use Rattle.definitions.specs.Limits.{word_limit}
 use Rattle.assigned.specs.WordsSay.{looked}
 use Rattle.summed.proofs.Orders.{row-outside, row-summed}
 use Rattle.summed.proofs.sum_row.Statement.{statement}
@@ -96,7 +96,7 @@ returns-2 c =
     let a = (start d.before).args in
     let n = a.first + a.count - a.first in
     row-summed a.first a.count n a.weights.now a.literals.now a.all a.words.now a.known.now
-    m.before.lesser.result m.lesser2.result wordLimit _ (omega arith) m.before.lesser.ensures m.lesser2.ensures (within d)
+    m.before.lesser.result m.lesser2.result word_limit _ (omega arith) m.before.lesser.ensures m.lesser2.ensures (within d)
     c.sum-terms.ensures
 
 pub sum-row-spec : {M : Type 1} → statement M

@@ -7,12 +7,12 @@ use native.Mathlib.Omega.{arith}
 use borrow.Author.Rules.{rules}
 use borrow.Author.Tests.{not-true, not-false}
 use mir.Facts.{to_z-of_z}
-use Rattle.definitions.specs.Limits.{weightLimit}
+use Rattle.definitions.specs.Limits.{weight_limit}
 use Rattle.definitions.specs.Refusal.{accept}
 use Rattle.definitions.specs.Meaning.{assigned}
-use Rattle.term_checks.specs.TermTests.{codesIndexed, weightSizes}
+use Rattle.term_checks.specs.TermTests.{codes_indexed, weight_sizes}
 use Rattle.term_checks.proofs.Terms.{sizes-on}
-use Rattle.assigned.specs.WordsSay.{hasBy, codesCovered}
+use Rattle.assigned.specs.WordsSay.{has_by, codes_covered}
 use Rattle.assigned.proofs.Known.{covered-within}
 use Rattle.summed.proofs.Orders.{sums-11, sums-8, sums-12, sums-up}
 use Rattle.summed.proofs.sum_terms.Statement.{statement}
@@ -24,16 +24,16 @@ start c = c.before.before.before.before.before.before
 
 -- ---- what the tests left
 
-indexes : (c : tie.Else1) → codesIndexed (start c.before).args.literals.now ≡ true
+indexes : (c : tie.Else1) → codes_indexed (start c.before).args.literals.now ≡ true
 indexes c = sym c.before.before.before.Indexed-of.ensures ∙ not-false _ c.if1.false
 
-small : (c : tie.Else2) → weightSizes (start c.before.before).args.weights.now ≤ weightLimit
+small : (c : tie.Else2) → weight_sizes (start c.before.before).args.weights.now ≤ weight_limit
 small c = omega (arith, c.before.before.before.sizes-of.ensures)
 
 abbrev has : tie.After-covered → ℕ → Bool
-has k = let a = (start k).args in hasBy a.all a.words.now a.known.now
+has k = let a = (start k).args in has_by a.all a.words.now a.known.now
 
-covers : (c : tie.Else3) → codesCovered (has c.before.before.before) (start c.before.before.before).args.literals.now ≡ true
+covers : (c : tie.Else3) → codes_covered (has c.before.before.before) (start c.before.before.before).args.literals.now ≡ true
 covers c = sym c.before.before.before.covered.ensures ∙ not-false _ c.if3.false
 
 -- ---- the needs

@@ -12,11 +12,11 @@ use mir.Syntax.{w64}
 use mir.Val.{SFits}
 use mir.Facts.{to_z-of_z}
 use Rattle.definitions.specs.Row.{Term, term}
-use Rattle.definitions.specs.Text.{termStep}
+use Rattle.definitions.specs.Text.{term_step}
 use Rattle.definitions.specs.Walk.{item}
 use Rattle.definitions.specs.declared.Options.{Options}
 use Rattle.definitions.proofs.Parts.{part-is}
-use Rattle.pieces.specs.Said.{saidNext}
+use Rattle.pieces.specs.Said.{said_next}
 use Rattle.sums.proofs.Sums.{term-end-within, term-has-byte}
 use Rattle.sums.proofs.Walking.{Walking, walking_start, walking-stop, walking-bad, walking-term}
 use Rattle.sums.proofs.Runs.{run_room, walking_run}
@@ -59,8 +59,8 @@ module _ (c : tie.After-next-term invariant-loop decreases-loop) where
   abbrev behind : tie.After-struct-known invariant-loop decreases-loop
   behind = c.before.before
 
-  step_is : termStep (options behind) (drop (place behind) (text behind)) ≡ saidNext c.next-term.result
-  step_is = sym (c.next-term.ensures ∙ ap (termStep (options behind)) (part-is (text behind) (place behind)))
+  step_is : term_step (options behind) (drop (place behind) (text behind)) ≡ said_next c.next-term.result
+  step_is = sym (c.next-term.ensures ∙ ap (term_step (options behind)) (part-is (text behind) (place behind)))
 
 -- a term stands there
 module _ (c : tie.After-weight invariant-loop decreases-loop) where
@@ -79,8 +79,8 @@ module _ (c : tie.After-weight invariant-loop decreases-loop) where
   abbrev bytes : ℕ
   bytes = c.weight.given.0.1.1.0
 
-  step-item : termStep (options there) (drop (place there) (text there)) ≡ item found bytes
-  step-item = step_is here ∙ ap saidNext c.weight.given.1
+  step-item : term_step (options there) (drop (place there) (text there)) ≡ item found bytes
+  step-item = step_is here ∙ ap said_next c.weight.given.1
 
   within : place there + bytes ≤ length (text there)
   within = term-end-within _ _ _ _ _ (passed there).summing found bytes step-item
@@ -132,7 +132,7 @@ same-length-2 c = (passed (behind c.before.before)).literals
 returns : tie.Need-returns invariant-loop decreases-loop
 returns c =
     let d = c.before.before in
-    walking-stop _ _ _ _ _ _ _ _ _ (passed (behind d)) (step_is d ∙ ap saidNext c.enum_told.given.1)
+    walking-stop _ _ _ _ _ _ _ _ _ (passed (behind d)) (step_is d ∙ ap said_next c.enum_told.given.1)
 
 enum-known-e : tie.Need-enum-known-e invariant-loop decreases-loop
 enum-known-e c = search rules
@@ -146,7 +146,7 @@ same-length-4 c = (passed (behind c.before.before.before)).literals
 returns-2 : tie.Need-returns-2 invariant-loop decreases-loop
 returns-2 c =
     let d = c.before.before.before in
-    walking-bad _ _ _ _ _ _ _ _ _ (passed (behind d)) _ (step_is d ∙ ap saidNext c.before.e.given.1)
+    walking-bad _ _ _ _ _ _ _ _ _ (passed (behind d)) _ (step_is d ∙ ap said_next c.before.e.given.1)
 
 enum-known-weight : tie.Need-enum-known-weight invariant-loop decreases-loop
 enum-known-weight c = search rules

@@ -6,51 +6,51 @@ use mathlib.Core.Bool.{cond}
 use native.Mathlib.Omega.{arith}
 use Prim.Native.Nat.{ℕ, ◌≤◌, ◌<◌}
 use borrow.Author.Tests.{le-leb, lt-leb, ne_eqb}
-use Rattle.definitions.specs.Bytes.{tab, lf, cr, space, star, plus, minus, semicolon, letterM, letterX, tilde, classOf, isDigit, isOperator}
+use Rattle.definitions.specs.Bytes.{tab, lf, cr, space, star, plus, minus, semicolon, letter_m, letter_x, tilde, class_of, is_digit, is_operator}
 use Rattle.definitions.specs.declared.Class.TheVariants.{Digit, Operator, Other}
 use Rattle.symbols.proofs.class_of.Statement.{statement}
 use Rattle.symbols.proofs.class_of.Tie as tie
 
 returns : tie.Need-returns
-unfolding classOf
+unfolding class_of
 returns c = ⊎_elim (λ e. rw e) (λ e. rw e) c.match.keys1
 
 returns-2 : tie.Need-returns-2
-unfolding classOf
+unfolding class_of
 returns-2 c = ⊎_elim (λ e. rw e) (λ e. rw e) c.match.keys2
 
 returns-3 : tie.Need-returns-3
-unfolding classOf
+unfolding class_of
 returns-3 c = rw c.match.keys3
 
 returns-4 : tie.Need-returns-4
-unfolding classOf
+unfolding class_of
 returns-4 c = rw c.match.keys4
 
 returns-5 : tie.Need-returns-5
-unfolding classOf
+unfolding class_of
 returns-5 c = rw c.match.keys5
 
 returns-6 : tie.Need-returns-6
-unfolding classOf
+unfolding class_of
 returns-6 c = rw c.match.keys6
 
 returns-7 : tie.Need-returns-7
-unfolding classOf
+unfolding class_of
 returns-7 c = rw c.match.keys7
 
 returns-8 : tie.Need-returns-8
-unfolding classOf
+unfolding class_of
 returns-8 c = rw c.match.keys8
 
 returns-9 : tie.Need-returns-9
-unfolding classOf
+unfolding class_of
 returns-9 c = rw c.match.keys9
 
 -- a byte that is none of the keys: what the ranges say
 ranged : (c : tie.At-match-rest)
-    → classOf c.before.args.b ≡ cond (isDigit c.before.args.b) Digit (cond (isOperator c.before.args.b) Operator Other)
-unfolding classOf
+    → class_of c.before.args.b ≡ cond (is_digit c.before.args.b) Digit (cond (is_operator c.before.args.b) Operator Other)
+unfolding class_of
 ranged c =
     let b = c.before.args.b in
     let r = c.match.rest in
@@ -66,8 +66,8 @@ ranged c =
       ne_eqb b semicolon r.0.0.0.0.1,
       ne_eqb b star r.0.0.0.1,
       ne_eqb b tilde r.0.0.1,
-      ne_eqb b letterX r.0.1,
-      ne_eqb b letterM r.1,
+      ne_eqb b letter_x r.0.1,
+      ne_eqb b letter_m r.1,
     )
 
 next : (n : ℕ) → 59 ≤ n → (n ≡ 59 → ⊥) → 60 ≤ n
@@ -78,21 +78,21 @@ module _ (c : tie.At-match-rest) where
   abbrev byte : ℕ
   byte = c.before.args.b
 
-  in-digits : 48 ≤ byte → byte < 58 → Digit ≡ classOf byte
+  in-digits : 48 ≤ byte → byte < 58 → Digit ≡ class_of byte
   in-digits h g = sym (ranged c ∙ rw (le-leb 48 byte h, le-leb byte 57 (omega arith)))
 
-  in-operators : 59 ≤ byte → byte < 63 → Operator ≡ classOf byte
+  in-operators : 59 ≤ byte → byte < 63 → Operator ≡ class_of byte
   in-operators h g =
       let k : 60 ≤ byte = next byte h c.match.rest.0.0.0.0.1 in
       sym (ranged c ∙ rw (le-leb 48 byte (omega arith), lt-leb byte 57 (omega arith), le-leb 60 byte k, le-leb byte 62 (omega arith)))
 
-  below-digits : byte < 48 → Other ≡ classOf byte
+  below-digits : byte < 48 → Other ≡ class_of byte
   below-digits h = sym (ranged c ∙ rw (lt-leb 48 byte h, lt-leb 60 byte (omega arith)))
 
-  between : 58 ≤ byte → byte < 59 → Other ≡ classOf byte
+  between : 58 ≤ byte → byte < 59 → Other ≡ class_of byte
   between h g = sym (ranged c ∙ rw (le-leb 48 byte (omega arith), lt-leb byte 57 (omega arith), lt-leb 60 byte (omega arith)))
 
-  above-operators : 63 ≤ byte → Other ≡ classOf byte
+  above-operators : 63 ≤ byte → Other ≡ class_of byte
   above-operators h =
       sym (ranged c
       ∙ rw (le-leb 48 byte (omega arith), lt-leb byte 57 (omega arith), le-leb 60 byte (omega arith), lt-leb byte 62 (omega arith)))

@@ -7,12 +7,12 @@ use mathlib.Core.Path.{◌≡◌, ap, sym, ◌∙◌}
 use native.Mathlib.Omega.{arith}
 use borrow.Author.Rules.{rules}
 use lib.ListN.{length}
-use Rattle.definitions.specs.Stepping.{stepped, stepAt}
+use Rattle.definitions.specs.Stepping.{stepped, step_at}
 use Rattle.definitions.specs.declared.Entry.{Entry}
 use Rattle.definitions.specs.declared.Options.{Options}
-use Rattle.columns.specs.Kinds.{termsOfKind}
+use Rattle.columns.specs.Kinds.{terms_of_kind}
 use Rattle.statements.proofs.Counts.{Counting, counting-start}
-use Rattle.walker.specs.Said.{saidStepped, briefStepped}
+use Rattle.walker.specs.Said.{said_stepped, brief_stepped}
 use Rattle.tallies.proofs.Tallies.{tally-end, tally-refused, Onward, tally-onward, tally-line}
 use Rattle.tallies.proofs.count_steps.Statement.{statement}
 use Rattle.tallies.proofs.count_steps.Tie as tie
@@ -45,15 +45,15 @@ module _ (c : tie.After-known-told2 invariant-loop decreases-loop) where
   abbrev next : ℕ
   next = c.before.entry.given.0.1.0
 
-  line-is : stepped found next ≡ briefStepped (stepAt (options here) (text here) (turn here).loop.at)
-  line-is = sym (ap saidStepped c.before.entry.given.1) ∙ here.step-at.ensures
+  line-is : stepped found next ≡ brief_stepped (step_at (options here) (text here) (turn here).loop.at)
+  line-is = sym (ap said_stepped c.before.entry.given.1) ∙ here.step-at.ensures
 
   onward : Onward (options here) (text here) (turn here).loop.at (turn here).loop.rows (turn here).loop.terms
       (turn here).loop.inv found next line-is
   onward = tally-onward _ _ _ _ _ (turn here).loop.inv found next line-is
 
   moved : Counting (options here) (text here) next ((turn here).loop.rows + 1)
-      ((turn here).loop.terms + termsOfKind found.kind found.count)
+      ((turn here).loop.terms + terms_of_kind found.kind found.count)
   moved = tally-line _ _ _ _ _ (turn here).loop.inv found next line-is
 
 loop-holds : tie.Need-loop-init invariant-loop decreases-loop
@@ -68,7 +68,7 @@ enum_told c = search rules
 returns : tie.Need-returns invariant-loop decreases-loop
 returns c =
     let d = c.before.before in
-    tally-end (options d) (text d) _ _ _ (turn d).loop.invariant (sym (ap saidStepped c.enum_told.given.1) ∙ d.step-at.ensures)
+    tally-end (options d) (text d) _ _ _ (turn d).loop.invariant (sym (ap said_stepped c.enum_told.given.1) ∙ d.step-at.ensures)
 
 enum-known-refusal : tie.Need-enum-known-refusal invariant-loop decreases-loop
 enum-known-refusal c = search rules
@@ -77,7 +77,7 @@ returns-2 : tie.Need-returns-2 invariant-loop decreases-loop
 returns-2 c =
     let d = c.before.before.before in
     tally-refused (options d) (text d) _ _ _ (turn d).loop.invariant _
-    (sym (ap saidStepped c.before.refusal.given.1) ∙ d.step-at.ensures)
+    (sym (ap said_stepped c.before.refusal.given.1) ∙ d.step-at.ensures)
 
 enum-known-entry : tie.Need-enum-known-entry invariant-loop decreases-loop
 enum-known-entry c = search rules

@@ -6,14 +6,14 @@ use native.Mathlib.Omega.{arith}
 use borrow.Author.Rules.{rules}
 use borrow.Author.Tests.{not-true, not-false}
 use lib.ListN.{length, get_or, drop}
-use Rattle.definitions.specs.Literal.{index_of, isIndex}
-use Rattle.term_checks.specs.TermTests.{codesIndexed}
+use Rattle.definitions.specs.Literal.{index_of, is_index}
+use Rattle.term_checks.specs.TermTests.{codes_indexed}
 use Rattle.term_checks.proofs.Every.{every-end, every-fails, every-passes}
 use Rattle.term_checks.proofs.indexed_of.Statement.{statement}
 use Rattle.term_checks.proofs.indexed_of.Tie as tie
 
 abbrev invariant-loop : tie.invariant-loop
-invariant-loop literals i₀ i = (i ≤ length literals) × (codesIndexed literals ≡ codesIndexed (drop i literals))
+invariant-loop literals i₀ i = (i ≤ length literals) × (codes_indexed literals ≡ codes_indexed (drop i literals))
 
 abbrev decreases-loop : tie.decreases-loop
 decreases-loop literals i₀ i = length literals - i
@@ -40,9 +40,9 @@ in-limit-requires c κs = search rules
 tested :
     (c : tie.After-in-limit invariant-loop decreases-loop) →
     c.in-limit.result ≡
-    isIndex (index_of (get_or c.before.before.before.before.before.before.before.args.literals.now
+    is_index (index_of (get_or c.before.before.before.before.before.before.before.args.literals.now
     c.before.before.before.before.before.loop.i 0))
-tested c = c.in-limit.ensures ∙ ap isIndex (c.before.var.ensures ∙ ap index_of c.before.before.of_code.ensures)
+tested c = c.in-limit.ensures ∙ ap is_index (c.before.var.ensures ∙ ap index_of c.before.before.of_code.ensures)
 
 returns : tie.Need-returns invariant-loop decreases-loop
 returns c =

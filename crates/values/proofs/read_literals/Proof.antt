@@ -6,12 +6,12 @@ use mathlib.Core.List.{List, [], map}
 use Prim.Native.Nat.{ℕ, ◌<◌}
 use borrow.Author.Rules.{rules}
 use lib.ListN.{length}
-use Rattle.definitions.specs.Answers.{saidLength}
+use Rattle.definitions.specs.Answers.{said_length}
 use Rattle.definitions.specs.Table.{accepted}
-use Rattle.definitions.specs.Values.{front, itemsFrom, hear, form_of, lengthAfter, newLength}
+use Rattle.definitions.specs.Values.{front, items_from, hear, form_of, length_after, new_length}
 use Rattle.definitions.specs.declared.Length.{Length}
-use Rattle.tokens.specs.Said.{formBy}
-use Rattle.settling.specs.Flat.{saidBy, code_in}
+use Rattle.tokens.specs.Said.{form_by}
+use Rattle.settling.specs.Flat.{said_by, code_in}
 use Rattle.values.proofs.Reading.{was-false, was-true, Heard, literals-refused, literals-said, read-refused, read_short, read-fine}
 use Rattle.values.proofs.read_literals.Statement.{statement}
 use Rattle.values.proofs.read_literals.Tie as tie
@@ -38,12 +38,12 @@ module _ (c : tie.After-hear) where
   some : 0 < length text
   some = start.pre.0
 
-  form : form_of text ≡ formBy named
+  form : form_of text ≡ form_by named
   form = start.pre.1
 
   -- what is heard, by the answer
-  heard : (r : Length) → c.hear.result ≡ r → saidLength r ≡ newLength kept (hear (formBy named) kept ws ks [] (itemsFrom front 0 text))
-  heard r q = ap saidLength (sym q) ∙ c.hear.ensures
+  heard : (r : Length) → c.hear.result ≡ r → said_length r ≡ new_length kept (hear (form_by named) kept ws ks [] (items_from front 0 text))
+  heard r q = ap said_length (sym q) ∙ c.hear.ensures
 
 -- nothing is refused
 module _ (c : tie.After-after) where
@@ -51,10 +51,10 @@ module _ (c : tie.After-after) where
   hearing = c.before.before
 
   abbrev codes : List ℕ
-  codes = map code_in (saidBy (named hearing) (itemsFrom front 0 (text hearing)))
+  codes = map code_in (said_by (named hearing) (items_from front 0 (text hearing)))
 
   all : (Heard (text hearing) (kept hearing) (ws hearing) (ks hearing) ≡ accepted codes)
-      × (c.after.given.0.0 ≡ lengthAfter (kept hearing) codes)
+      × (c.after.given.0.0 ≡ length_after (kept hearing) codes)
   all =
       literals-said (text hearing) (named hearing) (kept hearing) (ws hearing) (ks hearing) (form hearing) _
       (heard hearing _ c.after.given.1)

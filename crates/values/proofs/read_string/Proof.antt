@@ -6,10 +6,10 @@ use Prim.Native.Nat.{ℕ, ◌+◌, ◌-◌, ◌≤◌, ◌<◌}
 use native.Mathlib.Omega.{arith}
 use borrow.Author.Rules.{rules}
 use lib.ListN.{length, take, drop, length-take, length-drop}
-use Rattle.definitions.specs.Limits.{indexLimit}
-use Rattle.definitions.specs.Values.{front, itemsFrom, hear, lengthAfter, appended}
+use Rattle.definitions.specs.Limits.{index_limit}
+use Rattle.definitions.specs.Values.{front, items_from, hear, length_after, appended}
 use Rattle.values.specs.declared.string.Checked.{Checked}
-use Rattle.values.specs.Strings.{saidChecked, Fitting}
+use Rattle.values.specs.Strings.{said_checked, Fitting}
 use Rattle.values.proofs.Appended.{length-after-appended}
 use Rattle.values.proofs.Reading.{was-false, was-true, length-kept, valued-nothing, marked-nothing, Heard, read-refused}
 use Rattle.values.proofs.Reading.{read_short, read-fine}
@@ -36,9 +36,9 @@ module _ (c : tie.After-check) where
   some = start.pre.0
 
   -- the answer of the check is what is heard
-  heard : (r : Checked) → c.check.result ≡ r → Heard text kept ws ks ≡ saidChecked kept text r
+  heard : (r : Checked) → c.check.result ≡ r → Heard text kept ws ks ≡ said_checked kept text r
   heard r q =
-      ap (λ f. hear f kept ws ks [] (itemsFrom front 0 text)) start.pre.1 ∙ sym c.check.ensures.0 ∙ ap (saidChecked kept text) q
+      ap (λ f. hear f kept ws ks [] (items_from front 0 text)) start.pre.1 ∙ sym c.check.ensures.0 ∙ ap (said_checked kept text) q
 
   fits : (r : Checked) → c.check.result ≡ r → Fitting r kept (length text)
   fits r q = subst (λ (x : Checked). Fitting x kept (length text)) q c.check.ensures.1
@@ -54,13 +54,13 @@ module _ (c : tie.After-place) where
   abbrev to : ℕ
   to = c.place.given.0.1.0
 
-  lies : (from < to) × (to ≤ length (text checked)) × (kept checked + (to - from) ≤ indexLimit + 1)
+  lies : (from < to) × (to ≤ length (text checked)) × (kept checked + (to - from) ≤ index_limit + 1)
   lies = fits checked _ c.place.given.1
 
   count : length (take (to - from) (drop from (text checked))) ≡ to - from
   count = simp (length-take, length-drop) (omega (arith, lies.0, lies.1))
 
-  after : kept checked + (to - from) ≡ lengthAfter (kept checked) (appended (kept checked) (take (to - from) (drop from (text checked))))
+  after : kept checked + (to - from) ≡ length_after (kept checked) (appended (kept checked) (take (to - from) (drop from (text checked))))
   after = sym (length-after-appended (kept checked) (take (to - from) (drop from (text checked))) ∙ ap (λ (k : ℕ). kept checked + k) count)
 
 check-requires : tie.Need-check-requires

@@ -4,16 +4,16 @@ use mathlib.Core.Bool.{true}
 use borrow.Author.Rules.{rules}
 use lib.IntN.{◌+ℤ◌}
 use mir.Facts.{to_z-of_z}
-use Rattle.definitions.specs.Limits.{inI64}
+use Rattle.definitions.specs.Limits.{in_i64}
 use Rattle.definitions.proofs.Whole.{true-in}
 use Rattle.verdicts.proofs.objective.Statement.{statement}
 use Rattle.verdicts.proofs.objective.Tie as tie
 
 -- what the test says of the sum
-tested : (c : tie.After-sum-fits) → inI64 (c.before.args.sum +ℤ c.before.args.bound) ≡ c.sum-fits.result
+tested : (c : tie.After-sum-fits) → in_i64 (c.before.args.sum +ℤ c.before.args.bound) ≡ c.sum-fits.result
 tested c = let f = c.before.ranges in sym (c.sum-fits.ensures ∙ simp (to_z-of_z f.sum, to_z-of_z f.bound))
 
-within : (c : tie.Then1) → inI64 (c.before.before.args.sum +ℤ c.before.before.args.bound) ≡ true
+within : (c : tie.Then1) → in_i64 (c.before.before.args.sum +ℤ c.before.before.args.bound) ≡ true
 within c = tested c.before ∙ c.if1.true
 
 sum-fits-requires : tie.Need-sum-fits-requires

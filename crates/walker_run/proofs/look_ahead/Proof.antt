@@ -36,12 +36,12 @@ use denote.Triple.Spec.{Meets, triple_of}
 use denote.Triple.Table.{entered, cited}
 use denote.Triple.Walked.{says, Stays, stay_none, stay_none_slice, walk_of, Goes-none, Goes-none_slice, Walks, ends_at, walked, walk_Meets}
 use denote.Exit.{yes}
-use Rattle.definitions.specs.Stepping.{stepAt}
+use Rattle.definitions.specs.Stepping.{step_at}
 use Rattle.definitions.specs.declared.Options.{Options}
 use Rattle.definitions.specs.contracts.Options as O
 use Rattle.definitions.proofs.Options.TheLaws as O'
-use Rattle.walker.specs.Said.{saidStepped, briefStepped}
-use Rattle.held.specs.HeldWalker.{walkerAt}
+use Rattle.walker.specs.Said.{said_stepped, brief_stepped}
+use Rattle.held.specs.HeldWalker.{walker_at}
 use Rattle.walker.specs.declared.steps.Stepped.{Stepped}
 use Rattle.walker.specs.contracts.steps.Stepped as S
 use Rattle.walker.proofs.steps.Stepped.TheLaws as S'
@@ -76,7 +76,7 @@ module _ {M : Type 1} {𝓤 : Ura M} (𝓛 : Logic 𝓤) (mem : Memory → SProp
   Post = (walk_of 𝓛 look-ahead.ended stayed (look-ahead.clauses 𝓛 mem run)).post (((κ, tt), (q, tt), tt, (s, (p, (n, tt))), vals), tt)
 
   abbrev Said : Stepped → Type 0
-  Said r = saidStepped r ≡ briefStepped (stepAt p s.now n)
+  Said r = said_stepped r ≡ brief_stepped (step_at p s.now n)
 
   exits : (r : Stepped) (u : Val) → Said r → ent 𝓤 (⋆ 𝓛 (‵ ((S.the_row).own_val r (u ∷ [])) ∷ ‵ (flft κ q) ∷ ‵ (File κ s) ∷ [])) (Post u)
   exits r u e =
@@ -108,25 +108,25 @@ module _ {M : Type 1} {𝓤 : Ura M} (𝓛 : Logic 𝓤) (mem : Memory → SProp
         -- [what `new` asks; the slice; the locals from 2 on]
         calls_at ! fm (New 𝓛 mem run) known-new (to-new 𝓛 mem run κ q s p)
         (and_then ! (load ! (from ! (stop !)) (look ! 10 refl)) (and_then ! (load ! (from ! (stop !)) (look ! 8 refl)) (no_more !))) (λ u.
-        use1 𝓛 (later (‵ (flft κ q) ⊛ ‵ (Own κ (walkerAt s p 0) u)))
+        use1 𝓛 (later (‵ (flft κ q) ⊛ ‵ (Own κ (walker_at s p 0) u)))
         (gives-new 𝓛 mem run κ q s p u) $ await ! tt $ split ! $ move ! (1 ∷ []) $
         -- [what the walker owns; the token; the slice; the locals from 3 on]
-        peeks ! (Held κ) (Is (Held κ)) (shows 𝓛 (Held κ)) (walkerAt s p 0) (u ∷ []) (λ is.
-        land ! (from ! (stop !)) (init ! 3 refl (typed 𝓛 κ (walkerAt s p 0) u is)) $
-        use2 𝓛 (raw ((Moved 𝓛 mem run).pre (to-moved 𝓛 mem run κ q (walkerAt s p 0) u n)))
-        (asks-moved 𝓛 mem run κ q (walkerAt s p 0) u n small) $
-        calls_at ! fm (Moved 𝓛 mem run) known-moved (to-moved 𝓛 mem run κ q (walkerAt s p 0) u n)
+        peeks ! (Held κ) (Is (Held κ)) (shows 𝓛 (Held κ)) (walker_at s p 0) (u ∷ []) (λ is.
+        land ! (from ! (stop !)) (init ! 3 refl (typed 𝓛 κ (walker_at s p 0) u is)) $
+        use2 𝓛 (raw ((Moved 𝓛 mem run).pre (to-moved 𝓛 mem run κ q (walker_at s p 0) u n)))
+        (asks-moved 𝓛 mem run κ q (walker_at s p 0) u n small) $
+        calls_at ! fm (Moved 𝓛 mem run) known-moved (to-moved 𝓛 mem run κ q (walker_at s p 0) u n)
         (and_then ! (load ! (from ! (stop !)) (look ! 2 refl)) (and_then ! (load ! (from ! (stop !)) (look ! 6 refl)) (no_more !))) (λ u'.
-        use1 𝓛 (later (‵ (flft κ q) ⊛ ‵ (Own κ (walkerAt s p n) u')))
-        (gives_moved 𝓛 mem run κ q (walkerAt s p 0) u n u') $ await ! tt $ split ! $ move ! (1 ∷ []) $
-        peeks ! (Held κ) (Is (Held κ)) (shows 𝓛 (Held κ)) (walkerAt s p n) (u' ∷ []) (λ is'.
-        land ! (from ! (stop !)) (init ! 5 refl (typed 𝓛 κ (walkerAt s p n) u' is')) $
-        use2 𝓛 (raw ((Step 𝓛 mem run).pre (to_step 𝓛 mem run κ q (walkerAt s p n) u')))
-        (asks-step 𝓛 mem run κ q (walkerAt s p n) u') $
-        calls_at ! fm (Step 𝓛 mem run) Known-step (to_step 𝓛 mem run κ q (walkerAt s p n) u')
+        use1 𝓛 (later (‵ (flft κ q) ⊛ ‵ (Own κ (walker_at s p n) u')))
+        (gives_moved 𝓛 mem run κ q (walker_at s p 0) u n u') $ await ! tt $ split ! $ move ! (1 ∷ []) $
+        peeks ! (Held κ) (Is (Held κ)) (shows 𝓛 (Held κ)) (walker_at s p n) (u' ∷ []) (λ is'.
+        land ! (from ! (stop !)) (init ! 5 refl (typed 𝓛 κ (walker_at s p n) u' is')) $
+        use2 𝓛 (raw ((Step 𝓛 mem run).pre (to_step 𝓛 mem run κ q (walker_at s p n) u')))
+        (asks-step 𝓛 mem run κ q (walker_at s p n) u') $
+        calls_at ! fm (Step 𝓛 mem run) Known-step (to_step 𝓛 mem run κ q (walker_at s p n) u')
         (and_then ! (load ! (from ! (stop !)) (look ! 4 refl)) (no_more !)) (λ u''.
         use1 𝓛 (later (some (λ (r : Stepped). given (Said r) (‵ (flft κ q) ⊛ ‵ ((S.the_row).own_val r (u'' ∷ []))))))
-        (gives-step 𝓛 mem run κ q (walkerAt s p n) u' u'') $ await ! tt $ pick ! (λ r. learn ! (λ e. split ! $ move ! (1 ∷ []) $
+        (gives-step 𝓛 mem run κ q (walker_at s p n) u' u'') $ await ! tt $ pick ! (λ r. learn ! (λ e. split ! $ move ! (1 ∷ []) $
         -- [the answer; the token; the slice; the locals from 3 on]
         peeks ! S.the_row (Is S.the_row) (shows 𝓛 S.the_row) r (u'' ∷ []) (λ ir.
         land ! (from ! (stop !)) (init ! 13 refl ((enum.lawful S.the_type S'.the_laws 𝓛 tt).typed r _ ir).0) $

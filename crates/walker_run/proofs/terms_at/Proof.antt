@@ -42,7 +42,7 @@ use denote.Triple.Walked.{says, Stays, stay_none, stay_none_slice, gave_slice, w
 use denote.Triple.Walked.{Walks, ends_at, walked, walk_Meets}
 use denote.Triple.Clauses.{ensured, lasts}
 use denote.Exit.{yes}
-use Rattle.definitions.specs.Stepping.{termsAtStep}
+use Rattle.definitions.specs.Stepping.{terms_at_step}
 use Rattle.definitions.specs.declared.Options.{Options}
 use Rattle.definitions.specs.contracts.Options as O
 use Rattle.definitions.proofs.Options.TheLaws as O'
@@ -50,7 +50,7 @@ use Rattle.definitions.specs.declared.Length.{Length}
 use Rattle.definitions.specs.contracts.Length as L
 use Rattle.definitions.proofs.Length.TheLaws as L'
 use Rattle.fills.specs.FillsTerms.{FillsTerms}
-use Rattle.held.specs.HeldWalker.{walkerAt}
+use Rattle.held.specs.HeldWalker.{walker_at}
 use Rattle.held.specs.declared.Walker.{Walker}
 use Rattle.held.proofs.new.Symbol as new-def
 use Rattle.held.proofs.new.Symbol.{name as #new}
@@ -112,14 +112,14 @@ module _ {M : Type 1} {𝓤 : Ura M} (𝓛 : Logic 𝓤) (mem : Memory → SProp
 
   -- what `fill` answers, with the columns' last content
   abbrev Said : Length → List ℤ → List ℕ → Type 0
-  Said r zw zl = FillsTerms (termsAtStep p s.now n x.now y.now) x.now y.now r zw zl
+  Said r zw zl = FillsTerms (terms_at_step p s.now n x.now y.now) x.now y.now r zw zl
 
   -- ---- the call of `fill`, on the walker at n with the machine value u
   abbrev Handed : Type 0
   Handed = Walker × (Bor (List ℤ) × (Bor (List ℕ) × Unit {0}))
 
   abbrev handed : Handed
-  handed = (walkerAt s p n, (x, (y, tt)))
+  handed = (walker_at s p n, (x, (y, tt)))
 
   abbrev passed : Val → List Val × (List Val × (List Val × Unit {0}))
   passed u = (u ∷ [], (vx ∷ [], (vy ∷ [], tt)))
@@ -178,21 +178,21 @@ module _ {M : Type 1} {𝓤 : Ura M} (𝓛 : Logic 𝓤) (mem : Memory → SProp
         -- [what `new` asks; the slice; the columns' tokens; the columns; the locals from 4 on]
         calls_at ! fm (New 𝓛 mem run) known-new (to-new 𝓛 mem run κ q s p)
         (and_then ! (load ! (from ! (stop !)) (look ! 26 refl)) (and_then ! (load ! (from ! (stop !)) (look ! 24 refl)) (no_more !))) (λ u.
-        use1 𝓛 (later (‵ (flft κ q) ⊛ ‵ (Own κ (walkerAt s p 0) u)))
+        use1 𝓛 (later (‵ (flft κ q) ⊛ ‵ (Own κ (walker_at s p 0) u)))
         (gives-new 𝓛 mem run κ q s p u) $ await ! tt $ split ! $ move ! (1 ∷ []) $
         -- [what the walker owns; the file's token; the slice; the columns' tokens; the columns; the locals from 5 on]
-        peeks ! (Held κ) (Is (Held κ)) (shows 𝓛 (Held κ)) (walkerAt s p 0) (u ∷ []) (λ is.
-        land ! (from ! (stop !)) (init ! 15 refl (typed 𝓛 κ (walkerAt s p 0) u is)) $
-        use2 𝓛 (raw ((Moved 𝓛 mem run).pre (to-moved 𝓛 mem run κ q (walkerAt s p 0) u n)))
-        (asks-moved 𝓛 mem run κ q (walkerAt s p 0) u n small) $
-        calls_at ! fm (Moved 𝓛 mem run) known-moved (to-moved 𝓛 mem run κ q (walkerAt s p 0) u n)
+        peeks ! (Held κ) (Is (Held κ)) (shows 𝓛 (Held κ)) (walker_at s p 0) (u ∷ []) (λ is.
+        land ! (from ! (stop !)) (init ! 15 refl (typed 𝓛 κ (walker_at s p 0) u is)) $
+        use2 𝓛 (raw ((Moved 𝓛 mem run).pre (to-moved 𝓛 mem run κ q (walker_at s p 0) u n)))
+        (asks-moved 𝓛 mem run κ q (walker_at s p 0) u n small) $
+        calls_at ! fm (Moved 𝓛 mem run) known-moved (to-moved 𝓛 mem run κ q (walker_at s p 0) u n)
         (and_then ! (load ! (from ! (stop !)) (look ! 14 refl)) (and_then ! (load ! (from ! (stop !)) (look ! 22 refl)) (no_more !))) (λ u'.
-        use1 𝓛 (later (‵ (flft κ q) ⊛ ‵ (Own κ (walkerAt s p n) u')))
-        (gives_moved 𝓛 mem run κ q (walkerAt s p 0) u n u') $ await ! tt $ split ! $ move ! (1 ∷ []) $
-        peeks ! (Held κ) (Is (Held κ)) (shows 𝓛 (Held κ)) (walkerAt s p n) (u' ∷ []) (λ is'.
-        land ! (from ! (stop !)) (init ! 17 refl (typed 𝓛 κ (walkerAt s p n) u' is')) $
+        use1 𝓛 (later (‵ (flft κ q) ⊛ ‵ (Own κ (walker_at s p n) u')))
+        (gives_moved 𝓛 mem run κ q (walker_at s p 0) u n u') $ await ! tt $ split ! $ move ! (1 ∷ []) $
+        peeks ! (Held κ) (Is (Held κ)) (shows 𝓛 (Held κ)) (walker_at s p n) (u' ∷ []) (λ is'.
+        land ! (from ! (stop !)) (init ! 17 refl (typed 𝓛 κ (walker_at s p n) u' is')) $
         assigns ! (of_opd ! (load ! (from ! (stop !)) (look ! 17 refl))) (from ! (stop !))
-        (init ! 13 refl (typed 𝓛 κ (walkerAt s p n) u' is')) $
+        (init ! 13 refl (typed 𝓛 κ (walker_at s p n) u' is')) $
         assigns ! (addr ! (from ! (fld ! refl (hop ! (look_in ! 21 (sub ! 0 refl (whole !))) (stop !))))) (from ! (stop !))
         (init ! 11 refl (tt, tt)) $
         assigns ! (agg ! (and_then ! (load ! (from ! (stop !)) (look ! 11 refl))

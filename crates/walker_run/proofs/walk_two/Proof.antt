@@ -41,7 +41,7 @@ use denote.Exit.{yes}
 use Rattle.definitions.specs.declared.Options.{Options}
 use Rattle.definitions.specs.contracts.Options as O
 use Rattle.definitions.proofs.Options.TheLaws as O'
-use Rattle.held.specs.HeldWalker.{walkerAt}
+use Rattle.held.specs.HeldWalker.{walker_at}
 use Rattle.held.specs.declared.Walker.{Walker}
 use Rattle.walker.specs.declared.steps.Stepped.{Stepped}
 use Rattle.held.proofs.Walker.TheLaws as T'
@@ -82,7 +82,7 @@ module _ {M : Type 1} {𝓤 : Ura M} (𝓛 : Logic 𝓤) (mem : Memory → SProp
 
   -- the walker as it is made, behind the first statement, and behind the second
   abbrev d₀ : Walker
-  d₀ = walkerAt s p 0
+  d₀ = walker_at s p 0
 
   abbrev d₁ : Walker
   d₁ = behind d₀

@@ -7,11 +7,11 @@ use lib.ListN.{get_or}
 use mir.Syntax.{w64}
 use mir.Val.{SFits, to_z, of_z}
 use mir.Facts.{to_z-of_z}
-use Rattle.definitions.specs.Table.{Table, table, rowRoom}
+use Rattle.definitions.specs.Table.{Table, table, row_room}
 use Rattle.definitions.specs.declared.Entry.{Entry}
 use Rattle.columns.proofs.EntryLaws.{entry_at}
-use Rattle.printed.specs.Rows.{entry_of, onColumns}
-use Rattle.writer.specs.Entries.{entryText}
+use Rattle.printed.specs.Rows.{entry_of, on_columns}
+use Rattle.writer.specs.Entries.{entry_text}
 use Rattle.laws.proofs.Puts.{puts-as}
 use Rattle.writer.proofs.Lining.{ready-as, Lining, lining-none, lining-ready, lining-more, lining-all}
 use Rattle.writer.proofs.write_lines.Statement.{statement}
@@ -35,7 +35,7 @@ module _ (c : tie.In-loop invariant-loop decreases-loop) where
   rows_of = table start.args.kinds.now start.args.firsts.now start.args.counts.now start.args.bounds.now
       start.args.weights.now start.args.literals.now
 
-  below : turn.loop.i < rowRoom rows_of
+  below : turn.loop.i < row_room rows_of
   below = omega (arith, c.loop-test.true, turn.before.row_room.ensures)
 
 -- the entry as the code passes it
@@ -103,7 +103,7 @@ loop-again c =
     let s = start l in
     lining-more s.pre (turn l).loop.inv (below l)
     (puts-as c.before.before.write-entry.ensures
-    (ap (entryText s.args.mode (onColumns s.args.weights.now s.args.literals.now) s.args.text.now) (entry-is d)))
+    (ap (entry_text s.args.mode (on_columns s.args.weights.now s.args.literals.now) s.args.text.now) (entry-is d)))
 
 same_length : tie.Need-same-length invariant-loop decreases-loop
 same_length c = c.before.loop.invariant.long

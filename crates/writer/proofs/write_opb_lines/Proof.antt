@@ -3,7 +3,7 @@ use borrow.Author.Rules.{rules}
 use native.Mathlib.Omega.{arith}
 use mathlib.Core.Path.{◌≡◌, sym, ap, ◌∙◌}
 use Rattle.definitions.specs.Table.{Table, table, accepted}
-use Rattle.measures.specs.RowsMeasured.{saidMeasure, extentFor}
+use Rattle.measures.specs.RowsMeasured.{said_measure, extent_for}
 use Rattle.writer.proofs.WholeCall.{writes-refused, writes-full, writes-ready, writes-done}
 use Rattle.writer.proofs.write_opb_lines.Statement.{statement}
 use Rattle.writer.proofs.write_opb_lines.Tie as tie
@@ -16,8 +16,8 @@ rows_of s = table s.args.kinds.now s.args.firsts.now s.args.counts.now s.args.bo
     s.args.literals.now
 
 measured : (c : tie.After-all) → accepted c.all.given.0.0
-    ≡ extentFor (start c.before.before).args.mode (rows_of (start c.before.before)) (start c.before.before).args.text.now
-measured c = sym (ap saidMeasure c.all.given.1) ∙ c.before.before.measure-opb-lines.ensures
+    ≡ extent_for (start c.before.before).args.mode (rows_of (start c.before.before)) (start c.before.before).args.text.now
+measured c = sym (ap said_measure c.all.given.1) ∙ c.before.before.measure-opb-lines.ensures
 
 measure-opb-lines-requires : tie.Need-measure-opb-lines-requires
 measure-opb-lines-requires c κs = tt
@@ -43,7 +43,7 @@ returns-2 : tie.Need-returns-2
 returns-2 c =
     let s = start c.before.before.before in
     writes-refused s.args.mode (rows_of s) s.args.text.now s.args.out.now
-    _ (sym (ap saidMeasure c.before.r.given.1) ∙ c.before.before.before.measure-opb-lines.ensures)
+    _ (sym (ap said_measure c.before.r.given.1) ∙ c.before.before.before.measure-opb-lines.ensures)
 
 same_length : tie.Need-same-length
 same_length c = search rules

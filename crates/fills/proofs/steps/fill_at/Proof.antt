@@ -7,12 +7,12 @@ use borrow.Author.Rules.{rules}
 use lib.ListN.{length}
 use lib.IntN.{ℤ}
 use Rattle.definitions.specs.Text.{statement}
-use Rattle.definitions.specs.Stepping.{stepped, stepAt, steppedBy, termsBy, columnsRoom}
+use Rattle.definitions.specs.Stepping.{stepped, step_at, stepped_by, terms_by, columns_room}
 use Rattle.definitions.specs.declared.Entry.{Entry}
 use Rattle.definitions.specs.declared.Options.{Options}
 use Rattle.definitions.proofs.Parts.{part-is}
 use Rattle.fills.specs.FillsTerms.{FillsTerms}
-use Rattle.walker.specs.Said.{saidStepped, briefStepped}
+use Rattle.walker.specs.Said.{said_stepped, brief_stepped}
 use Rattle.fills.proofs.FillSteps.{fill-ended, fill-stopped, fill-within, fill-line}
 use Rattle.fills.proofs.steps.fill_at.Statement as theorem
 use Rattle.fills.proofs.steps.fill_at.Tie as tie
@@ -48,8 +48,8 @@ module _ (c : tie.After-enum-told2) where
   abbrev behind : ℕ
   behind = c.enum-told2.given.0.1.0
 
-  line-is : stepped line behind ≡ briefStepped (stepAt (options here) (text here) (place here))
-  line-is = sym (ap saidStepped c.enum-told2.given.1) ∙ here.step-at.ensures
+  line-is : stepped line behind ≡ brief_stepped (step_at (options here) (text here) (place here))
+  line-is = sym (ap said_stepped c.enum-told2.given.1) ∙ here.step-at.ensures
 
   within : place here ≤ length (text here)
   within = fill-within (options here) (text here) (place here) (weights here) (literals here) line behind line-is
@@ -81,12 +81,12 @@ fill-terms-requires c κs = search rules
 returns : tie.Need-returns
 returns c =
     let d = c.before.before in
-    fill-ended (options d) (text d) (place d) _ _ (sym (ap saidStepped c.enum_told.given.1) ∙ d.step-at.ensures)
+    fill-ended (options d) (text d) (place d) _ _ (sym (ap said_stepped c.enum_told.given.1) ∙ d.step-at.ensures)
 
 returns-2 : tie.Need-returns-2
 returns-2 c =
     let d = c.before.before.before in
-    fill-stopped (options d) (text d) (place d) _ _ _ (sym (ap saidStepped c.before.refusal.given.1) ∙ d.step-at.ensures)
+    fill-stopped (options d) (text d) (place d) _ _ _ (sym (ap said_stepped c.before.refusal.given.1) ∙ d.step-at.ensures)
 
 same_length : tie.Need-same-length
 same_length c = search rules
@@ -101,7 +101,7 @@ returns-3 c =
     let d = here e in
     fill-line (options d) (text d) (place d) (weights d) (literals d) (line e) (behind e) (line-is e) _ _ _
     (subst
-    (λ (t : List ℕ). FillsTerms (termsBy (columnsRoom (weights d) (literals d)) (steppedBy 0 (statement (options d) t))) (weights d)
+    (λ (t : List ℕ). FillsTerms (terms_by (columns_room (weights d) (literals d)) (stepped_by 0 (statement (options d) t))) (weights d)
     (literals d)
     f.fill-terms.result f.fill-terms.new.1.1.0 f.fill-terms.new.1.1.1.0) (part-is (text d) (place d))
     f.fill-terms.ensures)

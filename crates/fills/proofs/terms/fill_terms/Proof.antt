@@ -8,8 +8,8 @@ use lib.IntN.{ℤ}
 use Rattle.definitions.specs.Walk.{Step}
 use Rattle.definitions.specs.Row.{Line}
 use Rattle.definitions.specs.Text.{statement}
-use Rattle.definitions.specs.Stepping.{columnsRoom}
-use Rattle.statements.specs.Said.{saidStatement}
+use Rattle.definitions.specs.Stepping.{columns_room}
+use Rattle.statements.specs.Said.{said_statement}
 use Rattle.statements.proofs.Briefs.{LineIs, brief-item}
 use Rattle.statements.proofs.MetTerms.{statement-met}
 use Rattle.fills.proofs.FillTerms.{fill_end, fill-refused, fill-beyond, fill-whole}
@@ -50,9 +50,9 @@ module _ (c : tie.After-term-room) where
   line-is : LineIs (here begun) terms taken
   line-is =
       subst (λ (n : ℕ). LineIs (here begun) n taken) (sym counted.terms-of.ensures)
-      (brief-item _ _ _ (sym (ap saidStatement told.entry.given.1) ∙ begun.opb-data.ensures))
+      (brief-item _ _ _ (sym (ap said_statement told.entry.given.1) ∙ begun.opb-data.ensures))
 
-  room : c.term-room.result ≡ columnsRoom (weights begun) (literals begun)
+  room : c.term-room.result ≡ columns_room (weights begun) (literals begun)
   room = c.term-room.ensures
 
 opb-data-requires : tie.Need-opb-data-requires
@@ -90,12 +90,12 @@ walk-statement-requires c κs = search rules
 returns-2 : tie.Need-returns-2
 returns-2 c =
     let d = c.before.before in
-    fill_end (here d) _ _ (sym (ap saidStatement c.enum_told.given.1) ∙ d.opb-data.ensures)
+    fill_end (here d) _ _ (sym (ap said_statement c.enum_told.given.1) ∙ d.opb-data.ensures)
 
 returns-3 : tie.Need-returns-3
 returns-3 c =
     let d = c.before.before.before in
-    fill-refused (here d) _ _ _ (sym (ap saidStatement c.before.refusal.given.1) ∙ d.opb-data.ensures)
+    fill-refused (here d) _ _ _ (sym (ap said_statement c.before.refusal.given.1) ∙ d.opb-data.ensures)
 
 same-length-3 : tie.Need-same-length-3
 same-length-3 c = search rules

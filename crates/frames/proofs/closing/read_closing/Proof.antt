@@ -5,7 +5,7 @@ use mathlib.Core.Path.{◌≡◌, sym, ap, ◌∙◌}
 use native.Mathlib.Omega.{arith}
 use borrow.Author.Rules.{rules}
 use lib.ListN.{length, drop, length-drop}
-use Rattle.definitions.specs.Bytes.{blanks, lineEnding}
+use Rattle.definitions.specs.Bytes.{blanks, line_ending}
 use Rattle.definitions.proofs.Parts.{part-is}
 use Rattle.definitions.proofs.Texts.{blanks-within, ending-within}
 use Rattle.frames.proofs.Closings.{closing-empty, closing-semicolon, closing-line, closing-none}
@@ -31,8 +31,8 @@ module _ (c : tie.After-line-ending-of) where
   abbrev here : tie.After-blanks-of
   here = c.before.before
 
-  line-is : c.line-ending-of.result ≡ lineEnding (drop (gap here + 1) (text here))
-  line-is = c.line-ending-of.ensures ∙ ap lineEnding (part-is (text here) (gap here + 1))
+  line-is : c.line-ending-of.result ≡ line_ending (drop (gap here + 1) (text here))
+  line-is = c.line-ending-of.ensures ∙ ap line_ending (part-is (text here) (gap here + 1))
 
 returns : tie.Need-returns
 returns c = sym (closing-empty c.before.before.args.s.now c.if1.true)

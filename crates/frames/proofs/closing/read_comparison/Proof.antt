@@ -10,15 +10,15 @@ use lib.ListN.{length, drop, length-drop}
 use Rattle.definitions.specs.Bytes.{blanks}
 use Rattle.definitions.specs.Number.{number}
 use Rattle.definitions.specs.Reader.{got}
-use Rattle.definitions.specs.Text.{operator, ending, Comparison, comparisonOf, comparison}
+use Rattle.definitions.specs.Text.{operator, ending, Comparison, comparison_of, comparison}
 use Rattle.definitions.specs.declared.OpbOperator.{OpbOperator}
 use Rattle.definitions.proofs.Numbers.{number-within, number_fits}
 use Rattle.definitions.proofs.Parts.{part-is}
 use Rattle.definitions.proofs.Statements.{within-operator, within-comparison}
 use Rattle.definitions.proofs.Texts.{blanks-within}
 use Rattle.numbers.specs.Read.{said}
-use Rattle.operators.specs.Said.{saidOperator}
-use Rattle.frames.specs.Said.{saidEnding}
+use Rattle.operators.specs.Said.{said_operator}
+use Rattle.frames.specs.Said.{said_ending}
 use Rattle.frames.proofs.Closings.{comparison-no-operator, comparison-no-number, comparison-no-ending, comparison-got}
 use Rattle.frames.proofs.closing.read_comparison.Statement.{statement}
 use Rattle.frames.proofs.closing.read_comparison.Tie as tie
@@ -34,7 +34,7 @@ module _ (c : tie.After-known-told) where
   operator-end = c.before.operator.given.0.1.0
 
   operator-got : operator text ≡ got found operator-end
-  operator-got = sym c.before.before.before.read-operator.ensures ∙ ap saidOperator c.before.operator.given.1
+  operator-got = sym c.before.before.before.read-operator.ensures ∙ ap said_operator c.before.operator.given.1
 
   operator-within : operator-end ≤ length text
   operator-within = within-operator.most text found operator-end operator-got
@@ -93,7 +93,7 @@ module _ (c : tie.After-read-ending) where
   abbrev ending-text : List ℕ
   ending-text = number-text (at-number behind-number)
 
-  ending-by : ending (drop (number-end behind-number) ending-text) ≡ saidEnding c.read_ending.result
+  ending-by : ending (drop (number-end behind-number) ending-text) ≡ said_ending c.read_ending.result
   ending-by = sym (c.read_ending.ensures ∙ ap ending (part-is ending-text (number-end behind-number)))
 
 -- the whole
@@ -104,7 +104,7 @@ module _ (c : tie.After-known-told3) where
   abbrev read : Comparison
   read =
       let d = behind-number at-ending in
-      comparisonOf (found (behind-operator (behind-blanks (at-number d)))) (value d) c.before.semicolon.given.0.0
+      comparison_of (found (behind-operator (behind-blanks (at-number d)))) (value d) c.before.semicolon.given.0.0
 
   abbrev comparison-end : ℕ
   comparison-end = number-end (behind-number at-ending) + c.before.semicolon.given.0.1.0
@@ -116,7 +116,7 @@ module _ (c : tie.After-known-told3) where
       let f = behind-operator e in
       comparison-got (text f) (found f) (operator-end f) e.blanks-of.result (operator-got f) (blanks-got e) (value d)
       (number-bytes d) (number-got d) _ _
-      (ending-by at-ending ∙ ap saidEnding c.before.semicolon.given.1)
+      (ending-by at-ending ∙ ap said_ending c.before.semicolon.given.1)
 
 read-operator-requires : tie.Need-read-operator-requires
 read-operator-requires c κs = search rules
@@ -131,7 +131,7 @@ returns : tie.Need-returns
 returns c =
     let d = c.before.before in
     sym (comparison-no-operator d.before.before.args.s.now
-    (sym d.read-operator.ensures ∙ ap saidOperator c.enum_told.given.1))
+    (sym d.read-operator.ensures ∙ ap said_operator c.enum_told.given.1))
 
 sub-blanks-of : tie.Need-overflow-sub-blanks-of
 sub-blanks-of c = operator-within c
@@ -203,7 +203,7 @@ returns-3 c =
     let f = behind-operator e in
     sym (comparison-no-ending (text f) (found f) (operator-end f) e.blanks-of.result (operator-got f) (blanks-got e)
     (value d) (number-bytes d) (number-got d)
-    (ending-by b ∙ ap saidEnding c.enum-told3.given.1))
+    (ending-by b ∙ ap said_ending c.enum-told3.given.1))
 
 add-t12 : tie.Need-overflow-add-t12
 add-t12 c =

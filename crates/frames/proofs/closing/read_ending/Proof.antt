@@ -10,7 +10,7 @@ use Rattle.definitions.specs.Text.{closing, ending}
 use Rattle.definitions.proofs.Parts.{part-is}
 use Rattle.definitions.proofs.Statements.{within-ending}
 use Rattle.definitions.proofs.Texts.{blanks-within}
-use Rattle.frames.specs.Said.{saidEnding}
+use Rattle.frames.specs.Said.{said_ending}
 use Rattle.frames.specs.declared.closing.EndingRead.{EndingRead}
 use Rattle.frames.proofs.Closings.{ending-is}
 use Rattle.frames.proofs.closing.read_ending.Statement.{statement}
@@ -32,7 +32,7 @@ module _ (c : tie.After-read-closing) where
   abbrev here : tie.After-blanks-of
   here = c.before.before
 
-  ending-by : ending (text here) ≡ more (gap here) (saidEnding c.read-closing.result)
+  ending-by : ending (text here) ≡ more (gap here) (said_ending c.read-closing.result)
   ending-by =
       ending-is (text here) (gap here) here.blanks-of.ensures
       ∙ ap (more (gap here)) (sym (c.read-closing.ensures ∙ ap closing (part-is (text here) (gap here))))
@@ -43,7 +43,7 @@ module _ (c : tie.After-known-told) where
 
   ending-got : ending (text (here closed))
       ≡ got c.before.semicolon.given.0.0 (gap (here closed) + c.before.semicolon.given.0.1.0)
-  ending-got = ending-by closed ∙ ap (λ (r : EndingRead). more (gap (here closed)) (saidEnding r)) c.before.semicolon.given.1
+  ending-got = ending-by closed ∙ ap (λ (r : EndingRead). more (gap (here closed)) (said_ending r)) c.before.semicolon.given.1
 
 blanks-of-requires : tie.Need-blanks-of-requires
 blanks-of-requires c κs = search rules
@@ -69,7 +69,7 @@ enum_told c = search rules
 returns : tie.Need-returns
 returns c =
     let d = c.before.before in
-    sym (ending-by d ∙ ap (λ (r : EndingRead). more (gap (here d)) (saidEnding r)) c.enum_told.given.1)
+    sym (ending-by d ∙ ap (λ (r : EndingRead). more (gap (here d)) (said_ending r)) c.enum_told.given.1)
 
 add-t7 : tie.Need-overflow-add-t7
 add-t7 c = omega (arith, within-ending.most (text (here (closed c))) _ _ (ending-got c))

@@ -3,7 +3,7 @@
 use Prim.Native.Nat.{◌+◌, ◌-◌}
 use native.Mathlib.Omega.{arith}
 use borrow.Author.Rules.{rules}
-use Rattle.definitions.specs.Limits.{indexLimit}
+use Rattle.definitions.specs.Limits.{index_limit}
 use Rattle.heard.proofs.Searching.{Searched, searched-start, searched-end, searched-less, searched-on}
 use Rattle.heard.proofs.conflicts.first_conflict.Statement.{statement}
 use Rattle.heard.proofs.conflicts.first_conflict.Tie as tie
@@ -12,7 +12,7 @@ abbrev invariant-loop : tie.invariant-loop
 invariant-loop block named end values known found₀ base₀ found base = Searched named values known block end base found
 
 abbrev decreases-loop : tie.decreases-loop
-decreases-loop block named end values known found₀ base₀ found base = indexLimit + 1 - base
+decreases-loop block named end values known found₀ base₀ found base = index_limit + 1 - base
 
 loop-holds : tie.Need-loop-init invariant-loop decreases-loop
 loop-holds c = searched-start _ _ _ _ _

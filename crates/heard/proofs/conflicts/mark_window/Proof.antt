@@ -6,10 +6,10 @@ use mathlib.Core.List.{List}
 use native.Mathlib.Omega.{arith}
 use borrow.Author.Rules.{rules}
 use lib.ListN.{length, drop}
-use Rattle.definitions.specs.Values.{itemsFrom}
+use Rattle.definitions.specs.Values.{items_from}
 use Rattle.items.specs.Items.{spot_of}
 use Rattle.tokens.specs.declared.next.Next.{Next}
-use Rattle.settling.proofs.TokenSteps.{step_of, saidNext, Ahead, next-step}
+use Rattle.settling.proofs.TokenSteps.{step_of, said_next, Ahead, next-step}
 use Rattle.heard.proofs.Marking.{Walk, walk_start, walk_ends, walk-refuses, walk-nothing, walk-on}
 use Rattle.heard.proofs.conflicts.mark_window.Statement.{statement}
 use Rattle.heard.proofs.conflicts.mark_window.Tie as tie
@@ -32,14 +32,14 @@ module _ (c : tie.After-next-token invariant-loop decreases-loop) where
   abbrev place : ℕ
   place = c.before.loop.at
 
-  taken : (saidNext block c.next-token.result
-      ≡ step_of start.args.named (itemsFrom (spot_of c.before.loop.opens) place (drop place block)))
+  taken : (said_next block c.next-token.result
+      ≡ step_of start.args.named (items_from (spot_of c.before.loop.opens) place (drop place block)))
       × Ahead c.next-token.result place (length block)
   taken = next-step start.args.named block c.before.loop.opens place c.next-token.result c.next-token.ensures
 
   read : (r : Next) → c.next-token.result ≡ r
-      → saidNext block r ≡ step_of start.args.named (itemsFrom (spot_of c.before.loop.opens) place (drop place block))
-  read r e = sym (ap (saidNext block) e) ∙ taken.0
+      → said_next block r ≡ step_of start.args.named (items_from (spot_of c.before.loop.opens) place (drop place block))
+  read r e = sym (ap (said_next block) e) ∙ taken.0
 
   ahead : (r : Next) → c.next-token.result ≡ r → Ahead r place (length block)
   ahead r e = subst (λ (x : Next). Ahead x place (length block)) e taken.1

@@ -5,7 +5,7 @@ use mathlib.Core.Path.{◌≡◌, refl, sym, ap, ◌∙◌}
 use mathlib.Core.Bool.{Bool, true, false}
 use native.Mathlib.Omega.{arith}
 use Rattle.definitions.specs.Literal.{index_of}
-use Rattle.definitions.specs.Values.{bitMade}
+use Rattle.definitions.specs.Values.{bit_made}
 use Rattle.heard.specs.Windows.{clashes}
 use Rattle.heard.specs.declared.conflicts.Met.TheVariants as met
 use Rattle.heard.proofs.Marking.{met-before, met-behind, met-conflict, met-marked}
@@ -75,7 +75,7 @@ returns-4 c =
     let s = entry k.before in (
       sym (met-marked _ _ _ _ _ (omega (arith, e)) (omega (arith, e)) (told k.before false k.if3.false)),
       c.before.before.make-bit.ensures
-          ∙ ap (λ (o : ℕ). bitMade true (o - 2 * s.args.base) s.args.marks.now) c.before.before.before.before.code.ensures,
+          ∙ ap (λ (o : ℕ). bit_made true (o - 2 * s.args.base) s.args.marks.now) c.before.before.before.before.code.ensures,
     )
 
 pub meet-spec : {M : Type 1} → statement M

@@ -7,11 +7,11 @@ use mathlib.Core.List.{List}
 use native.Mathlib.Omega.{arith}
 use lib.ListN.{length, drop}
 use borrow.Author.Rules.{rules}
-use Rattle.definitions.specs.Values.{Item, front, itemsFrom}
+use Rattle.definitions.specs.Values.{Item, front, items_from}
 use Rattle.items.specs.Items.{spot_of}
-use Rattle.heard.specs.Surveys.{surveyOf}
+use Rattle.heard.specs.Surveys.{survey_of}
 use Rattle.tokens.specs.declared.next.Next.{Next}
-use Rattle.settling.proofs.TokenSteps.{step_of, saidNext, Ahead, next-step}
+use Rattle.settling.proofs.TokenSteps.{step_of, said_next, Ahead, next-step}
 use Rattle.heard.proofs.Surveying.{survey-ends, survey-refuses, survey-nothing, survey-says}
 use Rattle.heard.proofs.survey.survey.Statement.{statement}
 use Rattle.heard.proofs.survey.survey.Tie as tie
@@ -19,14 +19,14 @@ use Rattle.heard.proofs.survey.survey.Tie as tie
 -- what is left of the walk gives the whole answer
 record Left (block : List ℕ) (named : Bool) (kept at : ℕ) (opens : Bool) (n : ℕ) : Type 0 where
   within : at ≤ length block
-  rest : surveyOf named (length block) n (itemsFrom (spot_of opens) at (drop at block))
-      ≡ surveyOf named (length block) kept (itemsFrom front 0 block)
+  rest : survey_of named (length block) n (items_from (spot_of opens) at (drop at block))
+      ≡ survey_of named (length block) kept (items_from front 0 block)
 
 ahead : (r s : Next) (from n : ℕ) → Ahead r from n → r ≡ s → Ahead s from n
 ahead r s from n h q = subst (λ (x : Next). Ahead x from n) q h
 
-longer : (named : Bool) (end n m : ℕ) (is : List Item) → n ≡ m → surveyOf named end n is ≡ surveyOf named end m is
-longer named end n m is e = ap (λ (k : ℕ). surveyOf named end k is) e
+longer : (named : Bool) (end n m : ℕ) (is : List Item) → n ≡ m → survey_of named end n is ≡ survey_of named end m is
+longer named end n m is e = ap (λ (k : ℕ). survey_of named end k is) e
 
 abbrev invariant-loop : tie.invariant-loop
 invariant-loop block named kept at₀ opens₀ length₀ at opens n = Left block named kept at opens n
@@ -39,17 +39,17 @@ module _ (d : tie.After-next-token invariant-loop decreases-loop) where
   start = d.before.before.before
 
   abbrev items : List Item
-  items = itemsFrom (spot_of d.before.loop.opens) d.before.loop.at (drop d.before.loop.at start.args.block.now)
+  items = items_from (spot_of d.before.loop.opens) d.before.loop.at (drop d.before.loop.at start.args.block.now)
 
-  taken : (saidNext start.args.block.now d.next-token.result ≡ step_of start.args.named items)
+  taken : (said_next start.args.block.now d.next-token.result ≡ step_of start.args.named items)
       × Ahead d.next-token.result d.before.loop.at (length start.args.block.now)
   taken =
       next-step start.args.named start.args.block.now d.before.loop.opens d.before.loop.at d.next-token.result
       d.next-token.ensures
 
   -- the next token that was met is a step of the items
-  step : (s : Next) → d.next-token.result ≡ s → step_of start.args.named items ≡ saidNext start.args.block.now s
-  step s q = sym taken.0 ∙ ap (saidNext start.args.block.now) q
+  step : (s : Next) → d.next-token.result ≡ s → step_of start.args.named items ≡ said_next start.args.block.now s
+  step s q = sym taken.0 ∙ ap (said_next start.args.block.now) q
 
 loop-holds : tie.Need-loop-init invariant-loop decreases-loop
 loop-holds c = record { within = omega arith; rest = refl }

@@ -8,35 +8,35 @@ use mir.Facts.{to_z-of_z}
 use borrow.Author.Rules.{rules}
 use Rattle.definitions.specs.Lists.{joined}
 use Rattle.definitions.specs.Bytes.{lf}
-use Rattle.definitions.specs.Number.{integerText}
+use Rattle.definitions.specs.Number.{integer_text}
 use Rattle.definitions.specs.Row.{row, row_of}
-use Rattle.definitions.specs.Table.{termsOn}
-use Rattle.definitions.specs.House.{termFields, houseLine}
+use Rattle.definitions.specs.Table.{terms_on}
+use Rattle.definitions.specs.House.{term_fields, house_line}
 use Rattle.laws.proofs.Puts.{Puts, front-room, rest-room, puts-as, puts_then, puts-byte, puts-length}
-use Rattle.columns.specs.Kinds.{readKind}
+use Rattle.columns.specs.Kinds.{read_kind}
 use Rattle.puts.proofs.LandLaws.{lands}
-use Rattle.house_lengths.specs.Words.{wordField}
+use Rattle.house_lengths.specs.Words.{word_field}
 use Rattle.house_lengths.proofs.WordLaws.{line-words}
 use Rattle.house.proofs.lines.put_line.Statement.{statement}
 use Rattle.house.proofs.lines.put_line.Tie as tie
 
 abbrev word : tie.Start → List ℕ
-word s = wordField (readKind s.args.kind)
+word s = word_field (read_kind s.args.kind)
 
 abbrev bound : tie.Start → List ℕ
-bound s = integerText s.args.bound
+bound s = integer_text s.args.bound
 
 abbrev terms : tie.Start → List ℕ
-terms s = joined (termFields s.args.first) (termsOn s.args.weights.now s.args.literals.now)
+terms s = joined (term_fields s.args.first) (terms_on s.args.weights.now s.args.literals.now)
 
 abbrev whole : tie.Start → List ℕ
 whole s = word s ++ (bound s ++ (terms s ++ (lf ∷ [])))
 
 words : (s : tie.Start)
-    → houseLine s.args.first (row (row_of (readKind s.args.kind) s.args.bound
-    (termsOn s.args.weights.now s.args.literals.now))) ≡ whole s
+    → house_line s.args.first (row (row_of (read_kind s.args.kind) s.args.bound
+    (terms_on s.args.weights.now s.args.literals.now))) ≡ whole s
 words s =
-    line-words s.args.first (readKind s.args.kind) s.args.bound (termsOn s.args.weights.now s.args.literals.now)
+    line-words s.args.first (read_kind s.args.kind) s.args.bound (terms_on s.args.weights.now s.args.literals.now)
 
 room : (s : tie.Start) → s.args.at + length (whole s) ≤ length s.args.out.now
 room s = rw (words s) at s.requires.room

@@ -7,8 +7,8 @@ use lib.ListN.{length}
 use mir.Facts.{to_z-of_z}
 use Rattle.definitions.specs.Row.{Line}
 use Rattle.definitions.specs.declared.Entry.{Entry}
-use Rattle.definitions.specs.House.{houseLine}
-use Rattle.house_lengths.specs.Words.{commentLine}
+use Rattle.definitions.specs.House.{house_line}
+use Rattle.house_lengths.specs.Words.{comment_line}
 use Rattle.house_lengths.proofs.WordLaws.{comment-words}
 use Rattle.house_measures.proofs.Entries.{ReadEntry, accepted-comment, accepted-row}
 use borrow.Author.Rules.{rules}
@@ -19,7 +19,7 @@ abbrev entry : tie.Start → Entry
 entry s = record { kind = s.args.kind; first = s.args.start; count = s.args.count; bound = s.args.bound }
 
 comment-room : (c : tie.Then1)
-    → c.before.before.before.args.at + length (commentLine c.before.before.before.args.count) ≤ length
+    → c.before.before.before.args.at + length (comment_line c.before.before.before.args.count) ≤ length
     c.before.before.before.args.out.now
 comment-room c =
     let s = c.before.before.before in
@@ -85,7 +85,7 @@ put-line-requires c κs =
       long = (read d).long;
       numbers = (read d).numbers;
       room = omega
-          (arith, s.pre.room, ap (λ (l : Line). length (houseLine s.args.first l)) (read d).is);
+          (arith, s.pre.room, ap (λ (l : Line). length (house_line s.args.first l)) (read d).is);
     })
 
 same-length-2 : tie.Need-same-length-2

@@ -3,7 +3,7 @@ use native.Mathlib.Omega.{arith}
 use Prim.Native.Nat.{◌-◌, ◌<◌}
 use borrow.Author.Rules.{sfits_of}
 use mir.Facts.{to_z-of_z}
-use Rattle.definitions.specs.Table.{Table, table, rowRoom}
+use Rattle.definitions.specs.Table.{Table, table, row_room}
 use Rattle.laws.proofs.Puts.{puts-length}
 use Rattle.house.proofs.Rows.{Putting, putting-none, putting-ready, putting-more, putting-all}
 use Rattle.house.proofs.lines.put_rows.Statement.{statement}
@@ -24,7 +24,7 @@ module _ (c : tie.In-loop invariant-loop decreases-loop) where
   abbrev start : tie.Start invariant-loop decreases-loop
   start = c.before.before.before.before.before.before.before
 
-  in_table : c.before.loop.i < rowRoom (whole start)
+  in_table : c.before.loop.i < row_room (whole start)
   in_table = omega (arith, start.pre.within, c.loop-test.true)
 
 loop-holds : tie.Need-loop-init invariant-loop decreases-loop

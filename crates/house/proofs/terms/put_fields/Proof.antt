@@ -4,10 +4,10 @@ use mathlib.Core.Path.{◌≡◌, refl, ◌∙◌}
 use Prim.Native.Nat.{◌+◌, ◌≤◌}
 use lib.ListN.{length, length-set}
 use mir.Facts.{to_z-of_z}
-use Rattle.definitions.specs.Number.{integerText}
+use Rattle.definitions.specs.Number.{integer_text}
 use Rattle.definitions.specs.House.{field}
 use Rattle.laws.proofs.Puts.{Puts, puts-length, puts_then, byte-then}
-use Rattle.house_lengths.specs.Words.{literalWords}
+use Rattle.house_lengths.specs.Words.{literal_words}
 use Rattle.house_lengths.proofs.Fields.{words-length}
 use Rattle.puts.proofs.LandLaws.{lands}
 use borrow.Author.Rules.{rules}
@@ -15,7 +15,7 @@ use Rattle.house.proofs.terms.put_fields.Statement.{statement}
 use Rattle.house.proofs.terms.put_fields.Tie as tie
 
 room : (s : tie.Start)
-    → s.args.at + (length (integerText s.args.w) + length (literalWords s.args.tilde s.args.n.0) + 2) ≤ length
+    → s.args.at + (length (integer_text s.args.w) + length (literal_words s.args.tilde s.args.n.0) + 2) ≤ length
     s.args.out.now
 room s = omega (arith, s.requires, words-length s.args.w s.args.tilde s.args.n.0)
 
@@ -23,11 +23,11 @@ module _ (c : tie.After-put-number) where
   abbrev start : tie.Start
   start = c.before.before.before
 
-  weight-put : Puts (field (integerText start.args.w)) start.args.at start.args.out.now c.put-number.result
+  weight-put : Puts (field (integer_text start.args.w)) start.args.at start.args.out.now c.put-number.result
       c.put-number.new.1.0
   weight-put =
       byte-then 9 start.args.at (start.args.at + 1) start.args.out.now (omega (arith, room start)) refl
-      (lands (integerText start.args.w) _ _ (rw (to_z-of_z start.fits.w) at c.put-number.ensures)
+      (lands (integer_text start.args.w) _ _ (rw (to_z-of_z start.fits.w) at c.put-number.ensures)
       (simp length-set (omega (arith, room start))))
 
   weight-long : length c.put-number.new.1.0 ≡ length start.args.out.now

@@ -6,7 +6,7 @@ use Prim.Native.Nat.{◌+◌, ◌≤◌}
 use lib.ListN.{length, length-set}
 use Rattle.definitions.specs.Number.{decimal}
 use Rattle.laws.proofs.Puts.{byte-then}
-use Rattle.house_lengths.specs.Words.{literalWords}
+use Rattle.house_lengths.specs.Words.{literal_words}
 use Rattle.puts.proofs.LandLaws.{lands}
 use borrow.Author.Rules.{rules}
 use Rattle.house.proofs.terms.put_literal.Statement.{statement}
@@ -17,14 +17,14 @@ module _ (c : tie.Then1) where
   then-start = c.before.before
 
   tilde-room : then-start.args.at + (length (decimal then-start.args.n.0) + 3) ≤ length then-start.args.out.now
-  tilde-room = omega (arith, then-start.pre, ap (λ (b : Bool). length (literalWords b then-start.args.n.0)) c.if1.true)
+  tilde-room = omega (arith, then-start.pre, ap (λ (b : Bool). length (literal_words b then-start.args.n.0)) c.if1.true)
 
 module _ (c : tie.Else1) where
   abbrev else-start : tie.Start
   else-start = c.before.before
 
   plain-room : else-start.args.at + (length (decimal else-start.args.n.0) + 2) ≤ length else-start.args.out.now
-  plain-room = omega (arith, else-start.pre, ap (λ (b : Bool). length (literalWords b else-start.args.n.0)) c.if1.false)
+  plain-room = omega (arith, else-start.pre, ap (λ (b : Bool). length (literal_words b else-start.args.n.0)) c.if1.false)
 
 slice-write-out : tie.Need-slice-write-out
 slice-write-out c = search rules

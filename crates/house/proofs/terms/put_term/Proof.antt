@@ -4,15 +4,15 @@ use mathlib.Core.Path.{◌≡◌, ap, ◌∙◌}
 use Prim.Native.Nat.{◌+◌, ◌≤◌}
 use lib.ListN.{length}
 use mir.Facts.{to_z-of_z}
-use Rattle.definitions.specs.Literal.{index_of, negated, fileNumber}
+use Rattle.definitions.specs.Literal.{index_of, negated, file_number}
 use Rattle.definitions.specs.Row.{term}
-use Rattle.definitions.specs.House.{termFields}
+use Rattle.definitions.specs.House.{term_fields}
 use Rattle.definitions.proofs.Truths.{one_truth}
 use Rattle.laws.proofs.Puts.{puts-as}
-use Rattle.literals.specs.Said.{saidFileNumber}
-use Rattle.house_lengths.specs.Words.{termWords}
+use Rattle.literals.specs.Said.{said_file_number}
+use Rattle.house_lengths.specs.Words.{term_words}
 use Rattle.literals.proofs.Numbered.{number_is, no_number}
-use Rattle.house_lengths.proofs.Fields.{term_words}
+use Rattle.house_lengths.proofs.Fields.{term_words_lem}
 use borrow.Author.Rules.{rules}
 use Rattle.house.proofs.terms.put_term.Statement.{statement}
 use Rattle.house.proofs.terms.put_term.Tie as tie
@@ -21,16 +21,16 @@ module _ (c : tie.After-of) where
   abbrev start : tie.Start
   start = c.before.before.before
 
-  said : saidFileNumber c.of.result ≡ fileNumber start.args.first (index_of start.args.l.0)
-  said = c.of.ensures ∙ ap (fileNumber start.args.first) c.before.var.ensures
+  said : said_file_number c.of.result ≡ file_number start.args.first (index_of start.args.l.0)
+  said = c.of.ensures ∙ ap (file_number start.args.first) c.before.var.ensures
 
 module _ (c : tie.After-n) where
   abbrev s : tie.Start
   s = start c.before.before
 
-  words : termWords s.args.w (negated s.args.l.0) c.n.given.0.0.0 ≡ termFields s.args.first
+  words : term_words s.args.w (negated s.args.l.0) c.n.given.0.0.0 ≡ term_fields s.args.first
       (term s.args.w s.args.l.0)
-  words = term_words s.args.first s.args.w s.args.l.0 _ (number_is _ _ _ (said c.before.before) _ c.n.given.1).0
+  words = term_words_lem s.args.first s.args.w s.args.l.0 _ (number_is _ _ _ (said c.before.before) _ c.n.given.1).0
 
 var-requires : tie.Need-var-requires
 var-requires c κs = search rules
@@ -47,7 +47,7 @@ is-neg-requires c κs = search rules
 put-fields-requires : tie.Need-put-fields-requires
 put-fields-requires c κs =
     let n = c.before.before.before in
-    let h : (s n).args.at + length (termWords (s n).args.w (negated (s n).args.l.0) n.n.given.0.0.0) ≤ length
+    let h : (s n).args.at + length (term_words (s n).args.w (negated (s n).args.l.0) n.n.given.0.0.0) ≤ length
     (s n).args.out.now = omega (arith, (s n).requires.room, ap length (words n)) in
     rw (to_z-of_z (s n).ranges.w, c.before.is-neg.ensures) h
 

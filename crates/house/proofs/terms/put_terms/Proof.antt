@@ -10,7 +10,7 @@ use mir.Syntax.{w64}
 use mir.Val.{SFits}
 use mir.Facts.{to_z-of_z}
 use Rattle.definitions.specs.Row.{term}
-use Rattle.definitions.specs.House.{termFields}
+use Rattle.definitions.specs.House.{term_fields}
 use Rattle.laws.proofs.Puts.{Puts, puts_none, puts_then, puts-as, puts-length}
 use Rattle.house.specs.Ready.{TermReady}
 use Rattle.house_measures.proofs.TermsWalk.{TermsAt, terms-none, terms-more, terms-within, terms-number, terms-all}
@@ -94,7 +94,7 @@ loop-again c =
     terms-more t (start d).requires.long h (terms-number t (start d).requires.long h (start d).requires.numbers)
     (puts_then t.holds (text-fits d)
     (puts-as (rw (to_z-of_z (weight-fits d)) at c.before.before.put-term.ensures)
-    (ap (λ (l : ℕ). termFields (start d).args.first (term (get_or (start d).args.weights.now (turn d).loop.i (pos 0)) l))
+    (ap (λ (l : ℕ). term_fields (start d).args.first (term (get_or (start d).args.weights.now (turn d).loop.i (pos 0)) l))
     d.before.of_code.ensures)))
 
 same_length : tie.Need-same-length invariant-loop decreases-loop

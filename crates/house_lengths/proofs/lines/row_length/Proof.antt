@@ -8,10 +8,10 @@ use lib.IntN.{ℤ}
 use mir.Facts.{to_z-of_z}
 use Rattle.definitions.specs.Refusal.{needed}
 use Rattle.definitions.specs.Bytes.{tab}
-use Rattle.definitions.specs.Number.{integerText}
-use Rattle.definitions.specs.House.{kindWord}
+use Rattle.definitions.specs.Number.{integer_text}
+use Rattle.definitions.specs.House.{kind_word}
 use Rattle.laws.proofs.Digits.{number-length-most}
-use Rattle.columns.specs.Kinds.{readKind}
+use Rattle.columns.specs.Kinds.{read_kind}
 use Rattle.house_lengths.proofs.WordLaws.{word-most}
 use borrow.Author.Rules.{rules}
 use Rattle.house_lengths.proofs.lines.row_length.Statement.{statement}
@@ -21,16 +21,16 @@ module _ (c : tie.After-number-length) where
   abbrev start : tie.Start
   start = c.before.before
 
-  bound-length : (c.number-length.result ≡ length (integerText start.args.bound)) × (length (integerText start.args.bound) ≤ 20)
+  bound-length : (c.number-length.result ≡ length (integer_text start.args.bound)) × (length (integer_text start.args.bound) ≤ 20)
   bound-length = (
-    c.number-length.ensures ∙ ap (λ (z : ℤ). length (integerText z)) (to_z-of_z start.fits.bound),
+    c.number-length.ensures ∙ ap (λ (z : ℤ). length (integer_text z)) (to_z-of_z start.fits.bound),
     number-length-most
         start.args.bound start.fits.bound,
   )
 
-  word-length : (c.before.word-length.result ≡ length (kindWord (readKind start.args.kind))) ×
-      (length (kindWord (readKind start.args.kind)) ≤ 3)
-  word-length = (c.before.word-length.ensures, word-most (readKind start.args.kind))
+  word-length : (c.before.word-length.result ≡ length (kind_word (read_kind start.args.kind))) ×
+      (length (kind_word (read_kind start.args.kind)) ≤ 3)
+  word-length = (c.before.word-length.ensures, word-most (read_kind start.args.kind))
 
 word-length-requires : tie.Need-word-length-requires
 word-length-requires c κs = search rules
@@ -49,7 +49,7 @@ add-needed-requires c κs = search rules
 
 returns : tie.Need-returns
 returns c = let d = c.before in c.add-needed.ensures ∙ ap (λ (n : ℕ). needed (d.before.before.args.terms + n))
-    (omega (arith, bound-length d, word-length d, length-append (kindWord (readKind d.before.before.args.kind)) (tab ∷ [])))
+    (omega (arith, bound-length d, word-length d, length-append (kind_word (read_kind d.before.before.args.kind)) (tab ∷ [])))
 
 pub row-length-spec : {M : Type 1} → statement M
 row-length-spec =

@@ -6,7 +6,7 @@ use Prim.Native.Nat.{ℕ, ◌≤◌}
 use lib.ListN.{length}
 use lib.IntN.{ℤ}
 use mir.Facts.{to_z-of_z}
-use Rattle.definitions.specs.Number.{decimal, integerText}
+use Rattle.definitions.specs.Number.{decimal, integer_text}
 use Rattle.laws.proofs.Digits.{count-length-most, number-length-most}
 use Rattle.house_lengths.proofs.Fields.{tilde-words-length, plain-words-length}
 use borrow.Author.Rules.{rules}
@@ -17,10 +17,10 @@ module _ (c : tie.After-count-length) where
   abbrev start : tie.Start
   start = c.before.before.before
 
-  weight-length : (c.before.before.number-length.result ≡ length (integerText start.args.w)) ×
-      (length (integerText start.args.w) ≤ 20)
+  weight-length : (c.before.before.number-length.result ≡ length (integer_text start.args.w)) ×
+      (length (integer_text start.args.w) ≤ 20)
   weight-length = (
-    c.before.before.number-length.ensures ∙ ap (λ (z : ℤ). length (integerText z)) (to_z-of_z start.fits.w),
+    c.before.before.number-length.ensures ∙ ap (λ (z : ℤ). length (integer_text z)) (to_z-of_z start.fits.w),
     number-length-most start.args.w start.fits.w,
   )
 

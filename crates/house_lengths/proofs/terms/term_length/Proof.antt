@@ -1,8 +1,8 @@
 -- `term_length` meets its contract: the variable has a file number, and the fields are counted with it, or it has none.
 use mathlib.Core.Path.{◌≡◌, ap, ◌∙◌}
 use mir.Facts.{to_z-of_z}
-use Rattle.definitions.specs.Literal.{index_of, fileNumber}
-use Rattle.literals.specs.Said.{saidFileNumber}
+use Rattle.definitions.specs.Literal.{index_of, file_number}
+use Rattle.literals.specs.Said.{said_file_number}
 use Rattle.literals.proofs.Numbered.{number_is, no_number}
 use Rattle.house_lengths.proofs.Fields.{length-numbered, length-unnumbered}
 use borrow.Author.Rules.{rules}
@@ -13,8 +13,8 @@ module _ (c : tie.After-of) where
   abbrev start : tie.Start
   start = c.before.before
 
-  said : saidFileNumber c.of.result ≡ fileNumber start.args.first (index_of start.args.l.0)
-  said = c.of.ensures ∙ ap (fileNumber start.args.first) c.before.var.ensures
+  said : said_file_number c.of.result ≡ file_number start.args.first (index_of start.args.l.0)
+  said = c.of.ensures ∙ ap (file_number start.args.first) c.before.var.ensures
 
 var-requires : tie.Need-var-requires
 var-requires c κs = search rules

@@ -4,7 +4,7 @@ use mathlib.Core.Path.{◌≡◌, refl, sym, ◌∙◌}
 use mathlib.Core.Bool.{true}
 use borrow.Author.Tests.{not-true, not-false}
 use mir.Facts.{to_z-of_z}
-use Rattle.term_checks.specs.TermTests.{codesIndexed}
+use Rattle.term_checks.specs.TermTests.{codes_indexed}
 use Rattle.house_measures.proofs.Entries.{row-refused, row-unnumbered, row_sized}
 use borrow.Author.Rules.{rules}
 use Rattle.house_measures.proofs.rows.measure_line.Statement.{statement}
@@ -14,7 +14,7 @@ module _ (c : tie.After-terms-length) where
   abbrev start : tie.Start
   start = c.before.before.before.before
 
-  all-indexed : codesIndexed start.args.literals.now ≡ true
+  all-indexed : codes_indexed start.args.literals.now ≡ true
   all-indexed = sym c.before.before.Indexed-of.ensures ∙ not-false c.before.before.Indexed-of.result c.before.if1.false
 
 indexed-of-requires : tie.Need-indexed-of-requires

@@ -9,7 +9,7 @@ use lib.Dec.{leb}
 use lib.ListN.{length}
 use mir.Facts.{to_z-of_z}
 use Rattle.definitions.specs.declared.Entry.{Entry}
-use Rattle.house_measures.specs.Sizes.{sizeIn}
+use Rattle.house_measures.specs.Sizes.{size_in}
 use Rattle.house_measures.proofs.Entries.{comment-sized, unread-entry, outside-entry, inside-entry}
 use borrow.Author.Rules.{rules}
 use Rattle.house_measures.proofs.rows.measure_row.Statement.{statement}
@@ -46,7 +46,7 @@ returns c =
     comment-sized _ _ _ (entry s) _ c.before.if1.true (rw (to_z-of_z s.ranges.bound) at c.line-length.ensures)
 
 returns-2 : tie.Need-returns-2
-returns-2 c = ap (sizeIn _) (sym (unread-entry _ _ _ (entry c.before.before.before) c.if2.true))
+returns-2 c = ap (size_in _) (sym (unread-entry _ _ _ (entry c.before.before.before) c.if2.true))
 
 term-room-requires : tie.Need-term-room-requires
 term-room-requires c κs = search rules
@@ -58,7 +58,7 @@ returns-3 : tie.Need-returns-3
 returns-3 c =
     let d = c.before.before.before in
     let s = d.before.before.before in
-    ap (sizeIn _) (sym (outside-entry _ _ _ (entry s) d.before.if1.false d.if2.false
+    ap (size_in _) (sym (outside-entry _ _ _ (entry s) d.before.if1.false d.if2.false
     (sym (in-column-is c.before) ∙ not-true c.before.in-column.result c.if3.true)))
 
 add-end : tie.Need-overflow-add-end
@@ -98,7 +98,7 @@ returns-4 c =
     let n : s.args.start + s.args.count - s.args.start ≡ s.args.count = omega arith in
     c.measure-line.ensures
     ∙ rw (to_z-of_z s.fits.bound, n)
-    (ap (sizeIn _) (sym (inside-entry _ _ _ (entry s) d.before.before.before.before.if1.false
+    (ap (size_in _) (sym (inside-entry _ _ _ (entry s) d.before.before.before.before.if1.false
     d.before.before.before.if2.false (inside d))))
 
 pub measure-row-spec : {M : Type 1} → statement M

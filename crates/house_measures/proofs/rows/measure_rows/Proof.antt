@@ -4,10 +4,10 @@ use mathlib.Core.Path.{◌≡◌, sym, ap, ◌∙◌}
 use Prim.Native.Nat.{◌-◌, ◌≤◌, ◌<◌, min}
 use borrow.Author.Rules.{rules, sfits_of}
 use mir.Facts.{to_z-of_z}
-use Rattle.definitions.specs.Table.{Table, table, rowRoom}
+use Rattle.definitions.specs.Table.{Table, table, row_room}
 use Rattle.columns.proofs.EntryLaws.{entry_at}
-use Rattle.house_measures.specs.Lines.{lineOn}
-use Rattle.house_measures.specs.Sizes.{saidSize, sizeIn}
+use Rattle.house_measures.specs.Lines.{line_on}
+use Rattle.house_measures.specs.Sizes.{said_size, size_in}
 use Rattle.house_measures.proofs.RowsWalk.{Measures, measures-none, measures-refused, measures-more, measures-all}
 use Rattle.house_measures.proofs.rows.measure_rows.Statement.{statement}
 use Rattle.house_measures.proofs.rows.measure_rows.Tie as tie
@@ -27,10 +27,10 @@ module _ (c : tie.In-loop invariant-loop decreases-loop) where
   abbrev start : tie.Start invariant-loop decreases-loop
   start = c.before.before.before.before.before.before.before.before
 
-  bound : c.before.before.lesser.result ≡ min start.args.rows (rowRoom (whole start))
+  bound : c.before.before.lesser.result ≡ min start.args.rows (row_room (whole start))
   bound = c.before.before.lesser.ensures ∙ ap (min start.args.rows) c.before.before.before.row_room.ensures
 
-  in_table : (c.before.loop.i < start.args.rows) × (c.before.loop.i < rowRoom (whole start))
+  in_table : (c.before.loop.i < start.args.rows) × (c.before.loop.i < row_room (whole start))
   in_table = (omega (arith, bound, c.loop-test.true), omega (arith, bound, c.loop-test.true))
 
 -- what the check of the row at i says
@@ -38,8 +38,8 @@ module _ (c : tie.After-measure-row invariant-loop decreases-loop) where
   abbrev turn : tie.In-loop invariant-loop decreases-loop
   turn = c.before.before.before.before.before
 
-  said : saidSize c.measure-row.result ≡ sizeIn (start turn).args.first
-      (lineOn (start turn).args.first (start turn).args.weights.now (start turn).args.literals.now
+  said : said_size c.measure-row.result ≡ size_in (start turn).args.first
+      (line_on (start turn).args.first (start turn).args.weights.now (start turn).args.literals.now
       (entry_at (whole (start turn)) turn.before.loop.i))
   said = rw (to_z-of_z (sfits_of c.before.measure-row-arg.given)) at c.measure-row.ensures
 
@@ -95,7 +95,7 @@ returns c =
     let t = d.before.loop in
     measures-refused (whole (start d)) (start d).args.rows (start d).args.first t.i t.all t.inv.1 (in_table d).0
     (in_table d).1 _
-    (sym (ap saidSize c.before.number.given.1) ∙ said m)
+    (sym (ap said_size c.before.number.given.1) ∙ said m)
 
 add-i : tie.Need-overflow-add-i invariant-loop decreases-loop
 add-i c = let d = turn c.before.before.before.before.before in omega (arith, in_table d, (start d).good)
@@ -111,7 +111,7 @@ loop-again c =
       omega (arith, d.loop-test.taken),
       measures-more (whole (start d)) (start d).args.rows (start d).args.first t.i t.all t.inv.1 (in_table d).0
           (in_table d).1 _ _ _
-          (sym (ap saidSize c.before.before.before.size.given.1) ∙ said m) c.before.add-needed.ensures
+          (sym (ap said_size c.before.before.before.size.given.1) ∙ said m) c.before.add-needed.ensures
           c.add-needed2.ensures,
     )
 

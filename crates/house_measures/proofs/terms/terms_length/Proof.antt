@@ -9,8 +9,8 @@ use borrow.Author.Rules.{rules, sfits_of}
 use mir.Facts.{to_z-of_z}
 use Rattle.definitions.specs.Refusal.{needed, accept}
 use Rattle.definitions.specs.Row.{Term, term}
-use Rattle.definitions.specs.House.{termFields}
-use Rattle.house_lengths.specs.Lengths.{saidTermLength, termLength}
+use Rattle.definitions.specs.House.{term_fields}
+use Rattle.house_lengths.specs.Lengths.{said_term_length, term_length}
 use Rattle.house_lengths.proofs.Fields.{needed-more, counted_is, counted_none}
 use Rattle.house_measures.proofs.TermsWalk.{TermsAt, terms-none, terms-more, terms-all, terms-numbered, terms-unnumbered}
 use Rattle.house_measures.proofs.terms.terms_length.Statement.{statement}
@@ -34,7 +34,7 @@ module _ (c : tie.After-term-length invariant-loop decreases-loop) where
   here = term (get_or start.args.weights.now turn.before.loop.i (pos 0))
       (get_or start.args.literals.now turn.before.loop.i 0)
 
-  said : saidTermLength c.term-length.result ≡ termLength start.args.first here
+  said : said_term_length c.term-length.result ≡ term_length start.args.first here
   said =
       rw (to_z-of_z (sfits_of c.before.before.before.term-length-arg.given), c.before.of_code.ensures) at c.term-length.ensures
 
@@ -88,7 +88,7 @@ loop-again c =
     let t = (turn d).before.loop.invariant in
     let g = counted_is _ _ _ _ (said d) _ n.n.given.1 in
     terms-more t (start d).requires (turn d).loop-test.true g.0
-    (needed-more t.text (termFields (start d).args.first (here d)) t.holds g.1 c.add-needed.ensures)
+    (needed-more t.text (term_fields (start d).args.first (here d)) t.holds g.1 c.add-needed.ensures)
 
 returns-2 : tie.Need-returns-2 invariant-loop decreases-loop
 returns-2 c =

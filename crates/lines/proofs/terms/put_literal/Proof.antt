@@ -6,7 +6,7 @@ use Prim.Native.Nat.{◌+◌, ◌≤◌}
 use lib.ListN.{length, length-set}
 use Rattle.definitions.specs.Number.{decimal}
 use Rattle.outputs.specs.Print.{Prints}
-use Rattle.lines.proofs.Literals.{crossAt, no_place, no-number-put, has-place, literal-put}
+use Rattle.lines.proofs.Literals.{cross_at, no_place, no-number-put, has-place, literal-put}
 use borrow.Author.Rules.{rules}
 use Rattle.lines.proofs.terms.put_literal.Statement.{statement}
 use Rattle.lines.proofs.terms.put_literal.Tie as tie
@@ -15,7 +15,7 @@ module _ (c : tie.Joined1) where
   abbrev start : tie.Start
   start = c.before.before.before
 
-  cross : c.if1.x ≡ crossAt start.args.tilde
+  cross : c.if1.x ≡ cross_at start.args.tilde
   cross = ⊎_elim (λ w. rw w.0.taken w.1) (λ w. rw w.0.left w.1) c.if1.branch
 
   short : c.if1.x ≤ 2

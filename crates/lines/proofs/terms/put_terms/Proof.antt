@@ -11,10 +11,10 @@ use Rattle.definitions.specs.Row.{term}
 use Rattle.puts.proofs.SeveralLaws.{each-as}
 use Rattle.shown.specs.declared.terms.Style.{Style}
 use Rattle.shown.specs.declared.terms.Shown.{Shown}
-use Rattle.shown.specs.Terms.{ownTerm}
-use Rattle.shown.specs.Sums.{sumsWith}
+use Rattle.shown.specs.Terms.{own_term}
+use Rattle.shown.specs.Sums.{sums_with}
 use Rattle.shown.proofs.OneTerm.{shows-as}
-use Rattle.lines.specs.LinePieces.{shownPieces, shownOf}
+use Rattle.lines.specs.LinePieces.{shown_pieces, shown_of}
 use Rattle.lines.proofs.PieceLaws.{shown-is, Putting, putting-none, putting-more, putting-all}
 use Rattle.lines.proofs.terms.put_terms.Statement.{statement}
 use Rattle.lines.proofs.terms.put_terms.Tie as tie
@@ -46,10 +46,10 @@ module _ (c : tie.After-show-term invariant-loop decreases-loop) where
   abbrev code : ℕ
   code = get_or start.args.literals.now turn.loop.i 0
 
-  shown : c.show-term.result ≡ shownOf style (ownTerm style.unit (term weight code))
+  shown : c.show-term.result ≡ shown_of style (own_term style.unit (term weight code))
   shown =
       let f : SFits w64 weight = record { sfits = c.before.before.show-term-arg.given } in
-      shown-is (shows-as c.show-term.ensures (ap (λ (w : ℤ). ownTerm style.unit (term w code)) (to_z-of_z f)))
+      shown-is (shows-as c.show-term.ensures (ap (λ (w : ℤ). own_term style.unit (term w code)) (to_z-of_z f)))
 
 term-room-requires : tie.Need-term-room-requires invariant-loop decreases-loop
 term-room-requires c κs = tt
@@ -92,10 +92,10 @@ loop-again c =
     let d = w.before.before in
     let f : SFits w64 d.show-term.result.own = record { sfits = w.before.struct_told.given.0.1 } in
     putting-more (turn d).loop.invariant (below d.before.before.before)
-    (each-as c.before.before.put-shown.ensures (ap (shownPieces (style d)) (shown d)))
+    (each-as c.before.before.put-shown.ensures (ap (shown_pieces (style d)) (shown d)))
     (w.with-weight.ensures
-    ∙ ap (λ (z : ℤ). sumsWith (turn d).loop.sums z d.show-term.result.falls) (to_z-of_z f)
-    ∙ ap (λ (x : Shown). sumsWith (turn d).loop.sums x.own x.falls) (shown d))
+    ∙ ap (λ (z : ℤ). sums_with (turn d).loop.sums z d.show-term.result.falls) (to_z-of_z f)
+    ∙ ap (λ (x : Shown). sums_with (turn d).loop.sums x.own x.falls) (shown d))
     c.before.before.put-shown.auto.1.1.0
 
 same_length : tie.Need-same-length invariant-loop decreases-loop

@@ -10,10 +10,10 @@ use Rattle.definitions.specs.declared.Beginning.{Beginning}
 use Rattle.definitions.specs.declared.Beginning.TheVariants.{Comment, Objective, Constraint, Nothing}
 use Rattle.definitions.specs.declared.Options.{Options}
 use Rattle.definitions.proofs.Parts.{part-is}
-use Rattle.sums.specs.Met.{metTerms}
-use Rattle.statements.specs.Met.{goalMet, metBy, statementMet}
+use Rattle.sums.specs.Met.{met_terms}
+use Rattle.statements.specs.Met.{goal_met, met_by, statement_met}
 use Rattle.statements.proofs.MetTerms.{end-met, met-begun}
-use Rattle.listing_lengths.specs.Measure.{fieldsLength}
+use Rattle.listing_lengths.specs.Measure.{fields_length}
 use Rattle.listing_lengths.proofs.LineLengths.{none-length}
 use Rattle.listing_lengths.proofs.statement.fields_length.Statement.{statement}
 use Rattle.listing_lengths.proofs.statement.fields_length.Tie as tie
@@ -35,14 +35,14 @@ module _ (c : tie.After-begins) where
   gap_below : gap < length text
   gap_below = c.before.before.before.if1.false
 
-  met-is : (q : Beginning) → c.begins.result ≡ q → statementMet options text ≡ metBy q options (drop gap text)
+  met-is : (q : Beginning) → c.begins.result ≡ q → statement_met options text ≡ met_by q options (drop gap text)
   met-is q e =
       met-begun options text gap c.before.before.before.before.blanks-of.ensures gap_below c.begins.result
       (c.begins.ensures ∙ ap begins c.before.class_of.ensures) q e
 
   fields-are : (q : Beginning) → c.begins.result ≡ q
-      → fieldsLength options.first (metBy q options (drop gap text)) ≡ fieldsLength options.first (statementMet options text)
-  fields-are q e = ap (fieldsLength options.first) (sym (met-is q e))
+      → fields_length options.first (met_by q options (drop gap text)) ≡ fields_length options.first (statement_met options text)
+  fields-are q e = ap (fields_length options.first) (sym (met-is q e))
 
 blanks-of-requires : tie.Need-blanks-of-requires
 blanks-of-requires c κs = search rules
@@ -51,7 +51,7 @@ returns : tie.Need-returns
 returns c =
     let s = c.before.before.before in
     none-length s.args.options.first
-    ∙ ap (fieldsLength s.args.options.first) (sym (end-met s.args.options s.args.s.now _
+    ∙ ap (fields_length s.args.options.first) (sym (end-met s.args.options s.args.s.now _
     c.before.blanks-of.ensures c.if1.true))
 
 shared-slice-read-class-of : tie.Need-shared-slice-read-class-of
@@ -108,14 +108,14 @@ returns-3 : tie.Need-returns-3
 returns-3 c =
     let t = c.before.before in
     let d = t.before.before in
-    c.goal-length.ensures ∙ ap (λ (x : List ℕ). fieldsLength (options d).first (goalMet (options d) x)) (part-is (text d) (gap d))
+    c.goal-length.ensures ∙ ap (λ (x : List ℕ). fields_length (options d).first (goal_met (options d) x)) (part-is (text d) (gap d))
     ∙ fields-are d Objective t.enum-told2.given.1
 
 returns-4 : tie.Need-returns-4
 returns-4 c =
     let t = c.before.before in
     let d = t.before.before in
-    c.sum-length.ensures ∙ ap (λ (x : List ℕ). fieldsLength (options d).first (metTerms (options d) x)) (part-is (text d) (gap d))
+    c.sum-length.ensures ∙ ap (λ (x : List ℕ). fields_length (options d).first (met_terms (options d) x)) (part-is (text d) (gap d))
     ∙ fields-are d Constraint t.enum-told3.given.1
 
 returns-5 : tie.Need-returns-5

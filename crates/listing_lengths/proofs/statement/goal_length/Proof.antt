@@ -6,13 +6,13 @@ use native.Mathlib.Omega.{arith}
 use borrow.Author.Rules.{rules}
 use lib.ListN.{length}
 use Rattle.definitions.specs.Reader.{got}
-use Rattle.definitions.specs.Text.{minBlanks}
+use Rattle.definitions.specs.Text.{min_blanks}
 use Rattle.definitions.proofs.Parts.{part-is}
 use Rattle.definitions.proofs.Statements.{within-min-blanks}
-use Rattle.beginnings.specs.Said.{saidMin}
-use Rattle.sums.specs.Met.{metTerms}
+use Rattle.beginnings.specs.Said.{said_min}
+use Rattle.sums.specs.Met.{met_terms}
 use Rattle.statements.proofs.MetTerms.{goal-none, goal-behind}
-use Rattle.listing_lengths.specs.Measure.{fieldsLength}
+use Rattle.listing_lengths.specs.Measure.{fields_length}
 use Rattle.listing_lengths.proofs.LineLengths.{none-length}
 use Rattle.listing_lengths.proofs.statement.goal_length.Statement.{statement}
 use Rattle.listing_lengths.proofs.statement.goal_length.Tie as tie
@@ -28,8 +28,8 @@ module _ (c : tie.After-known-told) where
   abbrev gap : ℕ
   gap = c.before.k.given.0.0
 
-  begun : got gap (4 + gap) ≡ minBlanks text
-  begun = sym (ap saidMin c.before.k.given.1) ∙ c.before.before.before.read-min.ensures
+  begun : got gap (4 + gap) ≡ min_blanks text
+  begun = sym (ap said_min c.before.k.given.1) ∙ c.before.before.before.read-min.ensures
 
   within : gap + 4 ≤ length text
   within = omega (arith, within-min-blanks.most text gap (4 + gap) (sym begun))
@@ -47,8 +47,8 @@ returns : tie.Need-returns
 returns c =
     let b = c.before.before in
     let s = b.before.before in
-    let e = sym b.read-min.ensures ∙ ap saidMin c.enum_told.given.1 in
-    none-length s.args.options.first ∙ ap (fieldsLength s.args.options.first)
+    let e = sym b.read-min.ensures ∙ ap said_min c.enum_told.given.1 in
+    none-length s.args.options.first ∙ ap (fields_length s.args.options.first)
     (sym (goal-none s.args.options s.args.s.now _ e))
 
 add_a : tie.Need-overflow-add-a
@@ -70,10 +70,10 @@ returns-2 : tie.Need-returns-2
 returns-2 c =
     let d = c.before.before in
     let s = start d in
-    let e : minBlanks (text d) ≡ got (gap d) (gap d + 4) = sym (begun d) ∙ ap (got (gap d)) (omega arith) in
+    let e : min_blanks (text d) ≡ got (gap d) (gap d + 4) = sym (begun d) ∙ ap (got (gap d)) (omega arith) in
     c.sum-length.ensures
-    ∙ ap (λ (t : List ℕ). fieldsLength s.args.options.first (metTerms s.args.options t)) (part-is (text d) (gap d + 4))
-    ∙ ap (fieldsLength s.args.options.first) (sym (goal-behind s.args.options (text d) (gap d) (gap d + 4) e))
+    ∙ ap (λ (t : List ℕ). fields_length s.args.options.first (met_terms s.args.options t)) (part-is (text d) (gap d + 4))
+    ∙ ap (fields_length s.args.options.first) (sym (goal-behind s.args.options (text d) (gap d) (gap d + 4) e))
 
 pub goal-length-spec : {M : Type 1} → statement M
 goal-length-spec =

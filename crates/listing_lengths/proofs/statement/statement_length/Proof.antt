@@ -6,7 +6,7 @@ use mir.Facts.{to_z-of_z}
 use mir.Syntax.{w64}
 use mir.Val.{SFits}
 use Prim.Native.Nat.{ℕ}
-use Rattle.house_lengths.specs.Lengths.{lineLength}
+use Rattle.house_lengths.specs.Lengths.{line_length}
 use Rattle.listing_lengths.proofs.statement.statement_length.Statement.{statement}
 use Rattle.listing_lengths.proofs.statement.statement_length.Tie as tie
 
@@ -22,7 +22,7 @@ returns c =
     let s = f.before.before in
     let e = s.args.entry in
     let b : SFits w64 e.bound = record { sfits = omega (arith, c.before.struct_told.given) } in
-    rw (to_z-of_z b) at c.line-length.ensures ∙ ap (λ (n : ℕ). lineLength e.kind e.count e.bound n) f.fields-length.ensures
+    rw (to_z-of_z b) at c.line-length.ensures ∙ ap (λ (n : ℕ). line_length e.kind e.count e.bound n) f.fields-length.ensures
 
 pub statement-length-spec : {M : Type 1} → statement M
 statement-length-spec =

@@ -11,12 +11,12 @@ use mir.Syntax.{w64}
 use mir.Val.{SFits}
 use mir.Facts.{to_z-of_z}
 use Rattle.definitions.specs.Row.{Term, term}
-use Rattle.definitions.specs.Text.{termStep}
+use Rattle.definitions.specs.Text.{term_step}
 use Rattle.definitions.specs.Walk.{item}
 use Rattle.definitions.specs.declared.Options.{Options}
 use Rattle.definitions.proofs.Parts.{part-is}
-use Rattle.pieces.specs.Said.{saidNext}
-use Rattle.house_lengths.specs.Lengths.{saidTermLength, termLength}
+use Rattle.pieces.specs.Said.{said_next}
+use Rattle.house_lengths.specs.Lengths.{said_term_length, term_length}
 use Rattle.listing_lengths.proofs.SumLengths.{SumSized, sum-start, sum-stop, sum-bad, term-within, term-byte, term-known, sum-term}
 use Rattle.listing_lengths.proofs.statement.sum_length.Statement.{statement}
 use Rattle.listing_lengths.proofs.statement.sum_length.Tie as tie
@@ -44,8 +44,8 @@ module _ (c : tie.After-next-term invariant-loop decreases-loop) where
   abbrev place : ℕ
   place = turn.loop.at
 
-  step_is : termStep options (drop place text) ≡ saidNext c.next-term.result
-  step_is = sym (c.next-term.ensures ∙ ap (termStep options) (part-is text place))
+  step_is : term_step options (drop place text) ≡ said_next c.next-term.result
+  step_is = sym (c.next-term.ensures ∙ ap (term_step options) (part-is text place))
 
 -- a term stands there, and its length has been asked
 module _ (c : tie.After-term-length invariant-loop decreases-loop) where
@@ -64,13 +64,13 @@ module _ (c : tie.After-term-length invariant-loop decreases-loop) where
   abbrev bytes : ℕ
   bytes = told.weight.given.0.1.1.0
 
-  step-item : termStep (options here) (drop (place here) (text here)) ≡ item found bytes
-  step-item = step_is here ∙ ap saidNext told.weight.given.1
+  step-item : term_step (options here) (drop (place here) (text here)) ≡ item found bytes
+  step-item = step_is here ∙ ap said_next told.weight.given.1
 
   weight-fits : SFits w64 weight
   weight-fits = record { sfits = c.before.known-told.given.0.1 }
 
-  length-is : saidTermLength c.term-length.result ≡ termLength (options here).first found
+  length-is : said_term_length c.term-length.result ≡ term_length (options here).first found
   length-is = rw (to_z-of_z weight-fits) at c.term-length.ensures
 
   within : place here + bytes ≤ length (text here)
@@ -100,7 +100,7 @@ enum_told c = search rules
 returns : tie.Need-returns invariant-loop decreases-loop
 returns c =
     let d = c.before.before in
-    sum-stop _ _ _ _ (turn d).loop.invariant (step_is d ∙ ap saidNext c.enum_told.given.1)
+    sum-stop _ _ _ _ (turn d).loop.invariant (step_is d ∙ ap said_next c.enum_told.given.1)
 
 enum-told-2 : tie.Need-enum-told-2 invariant-loop decreases-loop
 enum-told-2 c = search rules
@@ -108,7 +108,7 @@ enum-told-2 c = search rules
 returns-2 : tie.Need-returns-2 invariant-loop decreases-loop
 returns-2 c =
     let d = c.before.before in
-    sum-bad _ _ _ _ (turn d).loop.invariant _ (step_is d ∙ ap saidNext c.enum-told2.given.1)
+    sum-bad _ _ _ _ (turn d).loop.invariant _ (step_is d ∙ ap said_next c.enum-told2.given.1)
 
 enum-known-weight : tie.Need-enum-known-weight invariant-loop decreases-loop
 enum-known-weight c = search rules
@@ -126,7 +126,7 @@ returns-3 : tie.Need-returns-3 invariant-loop decreases-loop
 returns-3 c =
     let d = c.before.before in
     term-known _ _ _ _ (turn (here d)).loop.inv (found d) (bytes d) (step-item d)
-    (sym (ap saidTermLength c.enum-told3.given.1) ∙ length-is d)
+    (sym (ap said_term_length c.enum-told3.given.1) ∙ length-is d)
 
 add-needed-requires : tie.Need-add-needed-requires invariant-loop decreases-loop
 add-needed-requires c κs = search rules
@@ -145,7 +145,7 @@ loop-again : tie.Need-loop-preserved invariant-loop decreases-loop
 loop-again c =
     let d = c.before.before.before.before in
     sum-term _ _ _ _ (turn (here d)).loop.inv (found d) (bytes d) (step-item d) _ _
-    (sym (ap saidTermLength c.before.before.n.given.1) ∙ length-is d) c.add-needed.ensures
+    (sym (ap said_term_length c.before.before.n.given.1) ∙ length-is d) c.add-needed.ensures
 
 pub sum-length-spec : {M : Type 1} → statement M
 sum-length-spec =

@@ -1,7 +1,7 @@
 -- `literals::FileNumber::of` meets its contract: the sum of two u32 fits a u64, and `of_digits` tests it. Assumes
 -- nothing.
-use Rattle.definitions.specs.Literal.{fileNumber}
-use Rattle.literals.specs.FileDigits.{fileNumberOf}
+use Rattle.definitions.specs.Literal.{file_number}
+use Rattle.literals.specs.FileDigits.{file_number_of}
 use borrow.Author.Rules.{rules}
 use Rattle.literals.proofs.FileNumber.of.Statement.{statement}
 use Rattle.literals.proofs.FileNumber.of.Tie as tie
@@ -16,7 +16,7 @@ of-digits-requires : tie.Need-of-digits-requires
 of-digits-requires c κs = search rules
 
 returns : tie.Need-returns
-unfolding fileNumberOf fileNumber
+unfolding file_number_of file_number
 returns c = c.of-digits.ensures
 
 pub of_spec : {M : Type 1} → statement M

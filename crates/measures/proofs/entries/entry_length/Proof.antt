@@ -2,14 +2,14 @@
 use borrow.Author.Rules.{rules}
 use mathlib.Core.Path.{◌≡◌, sym, ap, ◌∙◌}
 use mir.Facts.{to_z-of_z}
-use Rattle.definitions.specs.Table.{sortOf, and_then}
-use Rattle.definitions.specs.Write.{allowed, writtenIn}
+use Rattle.definitions.specs.Table.{sort_of, and_then}
+use Rattle.definitions.specs.Write.{allowed, written_in}
 use Rattle.printed.specs.declared.kinds.Sort as said
 use Rattle.printed.specs.declared.kinds.Sort.TheVariants.{Comment, Row, Refused}
-use Rattle.printed.specs.Kinds.{sortSaid}
+use Rattle.printed.specs.Kinds.{sort_said}
 use Rattle.measures.specs.Rows.{measured}
-use Rattle.printed.specs.Rows.{entry_of, onColumns}
-use Rattle.printed.proofs.OneEntry.{itemFor, written-by}
+use Rattle.printed.specs.Rows.{entry_of, on_columns}
+use Rattle.printed.proofs.OneEntry.{item_for, written-by}
 use Rattle.measures.proofs.OneEntry.{measured-comment, measured-row}
 use Rattle.measures.proofs.entries.entry_length.Statement.{statement}
 use Rattle.measures.proofs.entries.entry_length.Tie as tie
@@ -18,15 +18,15 @@ module _ (c : tie.After-sort-of) where
   abbrev start : tie.Start
   start = c.before.before.before
 
-  sorted : c.sort-of.result ≡ sortSaid (sortOf start.args.kind) start.args.bound
-  sorted = c.sort-of.ensures ∙ ap (sortSaid (sortOf start.args.kind)) (to_z-of_z start.fits.bound)
+  sorted : c.sort-of.result ≡ sort_said (sort_of start.args.kind) start.args.bound
+  sorted = c.sort-of.ensures ∙ ap (sort_said (sort_of start.args.kind)) (to_z-of_z start.fits.bound)
 
-  written : (s : said.Sort) → s ≡ sortSaid (sortOf start.args.kind) start.args.bound
-      → writtenIn start.args.mode (onColumns start.args.weights.now start.args.literals.now) start.args.text.now
+  written : (s : said.Sort) → s ≡ sort_said (sort_of start.args.kind) start.args.bound
+      → written_in start.args.mode (on_columns start.args.weights.now start.args.literals.now) start.args.text.now
       (entry_of start.args.kind start.args.first start.args.count start.args.bound)
-      ≡ and_then (itemFor s (onColumns start.args.weights.now start.args.literals.now) start.args.text.now
+      ≡ and_then (item_for s (on_columns start.args.weights.now start.args.literals.now) start.args.text.now
       (entry_of start.args.kind start.args.first start.args.count start.args.bound)) (allowed start.args.mode)
-  written s e = written-by (onColumns start.args.weights.now start.args.literals.now) start.args.text.now
+  written s e = written-by (on_columns start.args.weights.now start.args.literals.now) start.args.text.now
       (entry_of start.args.kind start.args.first start.args.count start.args.bound) start.args.mode s e
 
 sort-of-requires : tie.Need-sort-of-requires

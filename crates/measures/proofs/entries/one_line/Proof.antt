@@ -3,13 +3,13 @@ use native.Mathlib.Omega.{arith}
 use mathlib.Core.Path.{◌≡◌, refl, sym, ◌∙◌}
 use Prim.Native.Nat.{◌≤◌, ◌-◌}
 use lib.ListN.{length, drop}
-use Rattle.definitions.specs.Write.{oneLine}
+use Rattle.definitions.specs.Write.{one_line}
 use Rattle.measures.proofs.Comments.{one-line-end, one-line-broken, one-line-more}
 use Rattle.measures.proofs.entries.one_line.Statement.{statement}
 use Rattle.measures.proofs.entries.one_line.Tie as tie
 
 abbrev invariant-loop : tie.invariant-loop
-invariant-loop text i₀ i = (i ≤ length text) × (oneLine (drop i text) ≡ oneLine text)
+invariant-loop text i₀ i = (i ≤ length text) × (one_line (drop i text) ≡ one_line text)
 
 abbrev decreases-loop : tie.decreases-loop
 decreases-loop text i₀ i = length text - i

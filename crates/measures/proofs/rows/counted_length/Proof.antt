@@ -12,13 +12,13 @@ use mir.Val.{SFits}
 use mir.Facts.{to_z-of_z}
 use Rattle.definitions.specs.Refusal.{accept, needed}
 use Rattle.printed.specs.declared.bounds.Bound.{Bound}
-use Rattle.printed.specs.Bounds.{saidBound, printedBound}
-use Rattle.measures.specs.Rows.{frameText, frameLines, lacksTerms, framed, countedLength}
+use Rattle.printed.specs.Bounds.{said_bound, printed_bound}
+use Rattle.measures.specs.Rows.{frame_text, frame_lines, lacks_terms, framed, counted_length}
 use Rattle.measures.proofs.Measures.{counted-lacking, counted-unnumbered, counted-framed}
 use Rattle.measures.proofs.rows.counted_length.Statement.{statement}
 use Rattle.measures.proofs.rows.counted_length.Tie as tie
 
-has-terms : (c : tie.Else1) → lacksTerms c.before.before.args.shape.kind c.before.before.args.count ≡ false
+has-terms : (c : tie.Else1) → lacks_terms c.before.before.args.shape.kind c.before.before.args.count ≡ false
 has-terms c = sym c.before.lacks-terms.ensures ∙ c.if1.false
 
 module _ (c : tie.After-printed-bound) where
@@ -28,12 +28,12 @@ module _ (c : tie.After-printed-bound) where
   bound-fits : SFits w64 start.args.shape.bound
   bound-fits = record { sfits = c.before.struct_told.given.1.1.0.1 }
 
-  bound-said : saidBound c.printed-bound.result
-      ≡ printedBound start.args.shape.kind start.args.shape.bound start.args.t.sums.total start.args.t.sums.fall
+  bound-said : said_bound c.printed-bound.result
+      ≡ printed_bound start.args.shape.kind start.args.shape.bound start.args.t.sums.total start.args.t.sums.fall
   bound-said = c.printed-bound.ensures ∙ rw (to_z-of_z bound-fits)
 
-  framed_is : framed start.args.shape.kind start.args.t.length start.args.count (saidBound c.printed-bound.result)
-      ≡ countedLength start.args.shape start.args.count start.args.t
+  framed_is : framed start.args.shape.kind start.args.t.length start.args.count (said_bound c.printed-bound.result)
+      ≡ counted_length start.args.shape start.args.count start.args.t
   framed_is =
       counted-framed start.args.shape start.args.count start.args.t (has-terms c.before.before.before.before.before) _
       (not-false start.args.t.numbered c.before.before.before.if2.false) bound-said
@@ -77,9 +77,9 @@ returns-3 c =
     ap₂ (λ (l n : ℕ). accept (record { length = l; lines = n; terms = s.args.count }))
     (b.add-needed.ensures
     ∙ ap (λ (n : ℕ). needed (s.args.t.length + n))
-    (b.before.frame-length.ensures ∙ ap (λ (z : ℤ). length (frameText s.args.shape.kind z)) (to_z-of_z f)))
-    (c.frame-lines.ensures ∙ ap (frameLines s.args.shape.kind) (to_z-of_z f))
-    ∙ sym (ap (λ (r : Bound). framed s.args.shape.kind s.args.t.length s.args.count (saidBound r))
+    (b.before.frame-length.ensures ∙ ap (λ (z : ℤ). length (frame_text s.args.shape.kind z)) (to_z-of_z f)))
+    (c.frame-lines.ensures ∙ ap (frame_lines s.args.shape.kind) (to_z-of_z f))
+    ∙ sym (ap (λ (r : Bound). framed s.args.shape.kind s.args.t.length s.args.count (said_bound r))
     b.before.before.before.z.given.1)
     ∙ framed_is d
 
@@ -87,7 +87,7 @@ returns-4 : tie.Need-returns-4
 returns-4 c =
     let d = c.before.before in
     let s = start d in
-    sym (ap (λ (r : Bound). framed s.args.shape.kind s.args.t.length s.args.count (saidBound r)) c.enum_told.given.1)
+    sym (ap (λ (r : Bound). framed s.args.shape.kind s.args.t.length s.args.count (said_bound r)) c.enum_told.given.1)
     ∙ framed_is d
 
 pub counted-length-spec : {M : Type 1} → statement M

@@ -5,7 +5,7 @@ use mathlib.Core.Path.{◌≡◌, sym, ap, ◌∙◌}
 use lib.IntN.{ℤ}
 use lib.ListN.{length}
 use mir.Facts.{to_z-of_z}
-use Rattle.definitions.specs.Number.{integerText}
+use Rattle.definitions.specs.Number.{integer_text}
 use Rattle.laws.proofs.Digits.{number-length-most}
 use Rattle.measures.proofs.Frames.{frame-at-least, frame-equal, frame-no-offset, frame-offset}
 use mir.Syntax.{w64}
@@ -17,8 +17,8 @@ module _ (c : tie.After-number-length) where
   abbrev start : tie.Start
   start = c.before
 
-  sized : c.number-length.result ≡ length (integerText start.args.z)
-  sized = c.number-length.ensures ∙ ap (λ (z : ℤ). length (integerText z)) (to_z-of_z start.fits.z)
+  sized : c.number-length.result ≡ length (integer_text start.args.z)
+  sized = c.number-length.ensures ∙ ap (λ (z : ℤ). length (integer_text z)) (to_z-of_z start.fits.z)
 
 number-length-requires : tie.Need-number-length-requires
 number-length-requires c κs = search rules

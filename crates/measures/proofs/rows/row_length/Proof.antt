@@ -2,9 +2,9 @@
 use borrow.Author.Rules.{rules}
 use mathlib.Core.Path.{◌≡◌, sym, ap, ◌∙◌}
 use Rattle.shown.specs.declared.terms.Style.{Style}
-use Rattle.printed.specs.Kinds.{styleOf}
-use Rattle.shown.specs.Terms.{ownTerms}
-use Rattle.measures.specs.Tallies.{noTally, tallied, saidTally}
+use Rattle.printed.specs.Kinds.{style_of}
+use Rattle.shown.specs.Terms.{own_terms}
+use Rattle.measures.specs.Tallies.{no_tally, tallied, said_tally}
 use Rattle.measures.proofs.Measures.{measured-refused, measured-counted}
 use Rattle.measures.proofs.rows.row_length.Statement.{statement}
 use Rattle.measures.proofs.rows.row_length.Tie as tie
@@ -13,12 +13,12 @@ module _ (c : tie.After-tally-terms) where
   abbrev start : tie.Start
   start = c.before.before.before
 
-  tally-said : saidTally c.tally-terms.result
-      ≡ tallied (styleOf start.args.shape start.args.mode)
-      noTally (ownTerms start.args.shape.unit start.args.weights.now start.args.literals.now)
+  tally-said : said_tally c.tally-terms.result
+      ≡ tallied (style_of start.args.shape start.args.mode)
+      no_tally (own_terms start.args.shape.unit start.args.weights.now start.args.literals.now)
   tally-said =
       c.tally-terms.ensures
-      ∙ ap (λ (s : Style). tallied s noTally (ownTerms s.unit start.args.weights.now start.args.literals.now))
+      ∙ ap (λ (s : Style). tallied s no_tally (own_terms s.unit start.args.weights.now start.args.literals.now))
       c.before.style-of.ensures
 
 style-of-requires : tie.Need-style-of-requires
@@ -42,14 +42,14 @@ returns c =
     let s = start d in
     c.counted-length.ensures
     ∙ measured-counted s.args.shape s.args.weights.now s.args.literals.now s.pre s.args.mode _
-    (sym (ap saidTally c.before.before.t.given.1) ∙ tally-said d)
+    (sym (ap said_tally c.before.before.t.given.1) ∙ tally-said d)
 
 returns-2 : tie.Need-returns-2
 returns-2 c =
     let d = c.before.before in
     let s = start d in
     measured-refused s.args.shape s.args.weights.now s.args.literals.now s.pre s.args.mode
-    (sym (ap saidTally c.enum_told.given.1) ∙ tally-said d)
+    (sym (ap said_tally c.enum_told.given.1) ∙ tally-said d)
 
 pub row-length-spec : {M : Type 1} → statement M
 row-length-spec =

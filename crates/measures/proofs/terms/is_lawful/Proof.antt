@@ -4,7 +4,7 @@ use mathlib.Core.Path.{sym, ◌∙◌}
 use mir.Syntax.{w64}
 use mir.Val.{SFits}
 use mir.Facts.{to_z-of_z}
-use Rattle.definitions.specs.Literal.{isIndex}
+use Rattle.definitions.specs.Literal.{is_index}
 use Rattle.measures.proofs.Tallying.{negative-unlawful, others-lawful}
 use Rattle.measures.proofs.terms.is_lawful.Statement.{statement}
 use Rattle.measures.proofs.terms.is_lawful.Tie as tie
@@ -15,7 +15,7 @@ weight-fits c = record { sfits = c.struct_told.given.0.1 }
 returns : tie.Need-returns
 returns c =
     let s = c.before.before.before in
-    sym (negative-unlawful (isIndex s.args.x.var.0) s.args.x.own (rw (to_z-of_z (weight-fits c.before)) at c.if1.true))
+    sym (negative-unlawful (is_index s.args.x.var.0) s.args.x.own (rw (to_z-of_z (weight-fits c.before)) at c.if1.true))
 
 in-limit-requires : tie.Need-in-limit-requires
 in-limit-requires c κs = search rules
@@ -25,7 +25,7 @@ returns-2 c =
     let d = c.before.before in
     let s = d.before.before.before in
     c.in-limit.ensures
-    ∙ sym (others-lawful (isIndex s.args.x.var.0) s.args.x.own (rw (to_z-of_z (weight-fits d.before)) at d.if1.false))
+    ∙ sym (others-lawful (is_index s.args.x.var.0) s.args.x.own (rw (to_z-of_z (weight-fits d.before)) at d.if1.false))
 
 pub is-lawful-spec : {M : Type 1} → statement M
 is-lawful-spec = tie.close (tie.spec returns in-limit-requires returns-2)

@@ -6,7 +6,7 @@ use mir.Syntax.{w64}
 use mir.Val.{SFits}
 use mir.Facts.{to_z-of_z}
 use Rattle.definitions.specs.Refusal.{needed}
-use Rattle.shown.specs.Sums.{sumsWith}
+use Rattle.shown.specs.Sums.{sums_with}
 use Rattle.literals.proofs.Numbered.{number_is, no_number}
 use Rattle.measures.proofs.Tallying.{tally-numbered, tally-unnumbered}
 use Rattle.measures.proofs.terms.tally_shown.Statement.{statement}
@@ -16,7 +16,7 @@ module _ (c : tie.After-of) where
   abbrev start : tie.Start
   start = c.before.before.before.before.before
 
-  weighed : c.before.before.with-weight.result ≡ sumsWith start.args.t.sums start.args.x.own start.args.x.falls
+  weighed : c.before.before.with-weight.result ≡ sums_with start.args.t.sums start.args.x.own start.args.x.falls
   weighed =
       let f : SFits w64 start.args.x.own = record { sfits = c.before.before.before.struct_told.given.0.1 } in
       c.before.before.with-weight.ensures ∙ rw (to_z-of_z f)

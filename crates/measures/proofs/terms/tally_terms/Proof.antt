@@ -9,7 +9,7 @@ use mir.Syntax.{w64}
 use mir.Val.{SFits}
 use mir.Facts.{to_z-of_z}
 use Rattle.definitions.specs.Row.{term}
-use Rattle.shown.specs.Terms.{ownTerm, Shows}
+use Rattle.shown.specs.Terms.{own_term, Shows}
 use Rattle.shown.proofs.OneTerm.{shows-as}
 use Rattle.measures.proofs.Tallying.{Tallying, tallying-none, tallying-refused, tallying-more, tallying-all}
 use Rattle.measures.proofs.terms.tally_terms.Statement.{statement}
@@ -35,10 +35,10 @@ module _ (c : tie.After-show-term invariant-loop decreases-loop) where
   abbrev code : ℕ
   code = get_or start.args.literals.now turn.loop.i 0
 
-  shows : Shows start.args.style (ownTerm start.args.style.unit (term weight code)) c.show-term.result
+  shows : Shows start.args.style (own_term start.args.style.unit (term weight code)) c.show-term.result
   shows =
       let f : SFits w64 weight = record { sfits = c.before.before.show-term-arg.given } in
-      shows-as c.show-term.ensures (ap (λ (w : ℤ). ownTerm start.args.style.unit (term w code)) (to_z-of_z f))
+      shows-as c.show-term.ensures (ap (λ (w : ℤ). own_term start.args.style.unit (term w code)) (to_z-of_z f))
 
 loop-holds : tie.Need-loop-init invariant-loop decreases-loop
 loop-holds c = tallying-none _ _ _

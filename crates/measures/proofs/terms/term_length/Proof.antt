@@ -9,7 +9,7 @@ use lib.IntN.{ℤ}
 use mir.Syntax.{w64}
 use mir.Val.{SFits}
 use mir.Facts.{to_z-of_z}
-use Rattle.definitions.specs.Number.{decimal, integerText}
+use Rattle.definitions.specs.Number.{decimal, integer_text}
 use Rattle.definitions.proofs.Numbers.{decimal-length-most}
 use Rattle.shown.specs.declared.terms.Shown.{Shown}
 use Rattle.laws.proofs.Digits.{number-length-most}
@@ -24,8 +24,8 @@ module _ (c : tie.After-count-length) where
   weight-fits : SFits w64 shown.weight
   weight-fits = record { sfits = c.before.before.before.struct_told.given.1.0.1 }
 
-  sized : c.before.before.number-length.result ≡ length (integerText shown.weight)
-  sized = c.before.before.number-length.ensures ∙ ap (λ (z : ℤ). length (integerText z)) (to_z-of_z weight-fits)
+  sized : c.before.before.number-length.result ≡ length (integer_text shown.weight)
+  sized = c.before.before.number-length.ensures ∙ ap (λ (z : ℤ). length (integer_text z)) (to_z-of_z weight-fits)
 
   numbered : c.count-length.result ≡ length (decimal c.before.before.before.before.args.n.0)
   numbered = c.count-length.ensures ∙ ap (λ (n : ℕ). length (decimal n)) c.before.number.ensures

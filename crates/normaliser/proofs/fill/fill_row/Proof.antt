@@ -13,8 +13,8 @@ use mir.Facts.{to_z-of_z}
 use Rattle.definitions.specs.declared.Kind.{Kind}
 use Rattle.definitions.specs.declared.Entry.{Entry}
 use Rattle.definitions.proofs.Whole.{true-in}
-use Rattle.columns.specs.Kinds.{readKind}
-use Rattle.shifts.specs.Shifts.{weightRises, shift_by, shift_of}
+use Rattle.columns.specs.Kinds.{read_kind}
+use Rattle.shifts.specs.Shifts.{weight_rises, shift_by, shift_of}
 use Rattle.shifts.proofs.Rises.{shift-whole}
 use Rattle.normal_checks.proofs.Entries.{accepted-row}
 use Rattle.normaliser.specs.Fill.{TermsReady}
@@ -38,17 +38,17 @@ ends c =
 abbrev back : tie.After-slice-known2 → tie.Else1
 back c = c.before.before.before.before.before.before.before.before
 
-abbrev weightsPart : tie.Start → List ℤ
-weightsPart s = take (s.args.first + s.args.count - s.args.first) (drop s.args.first s.args.weights.now)
+abbrev weights_part : tie.Start → List ℤ
+weights_part s = take (s.args.first + s.args.count - s.args.first) (drop s.args.first s.args.weights.now)
 
-abbrev literalsPart : tie.Start → List ℕ
-literalsPart s = take (s.args.first + s.args.count - s.args.first) (drop s.args.first s.args.literals.now)
+abbrev literals_part : tie.Start → List ℕ
+literals_part s = take (s.args.first + s.args.count - s.args.first) (drop s.args.first s.args.literals.now)
 
 counted : (s : tie.Start) → s.args.first + s.args.count - s.args.first ≡ s.args.count
 counted s = omega arith
 
 ready : (c : tie.Else1)
-    → TermsReady (weightsPart (start c)) (literalsPart (start c)) (start c).args.outweights.now (start c).args.outliterals.now
+    → TermsReady (weights_part (start c)) (literals_part (start c)) (start c).args.outweights.now (start c).args.outliterals.now
 ready c =
     let s = start c in
     rw (counted s) (row-ready s.args.weights.now s.args.literals.now (entry s) s.args.outweights.now
@@ -60,13 +60,13 @@ module _ (c : tie.After-shift-of) where
   called = back c.before.before.before
 
   abbrev shift : ℤ
-  shift = shift_by (readKind (start called).args.kind) (weightRises (weightsPart (start called)))
+  shift = shift_by (read_kind (start called).args.kind) (weight_rises (weights_part (start called)))
 
   shifted : c.Shift-of.result ≡ shift
   shifted =
       let s = start called in
-      c.Shift-of.ensures ∙ ap (λ (k : Kind). shift_of k (weightsPart s)) c.before.before.read-kind.ensures
-      ∙ shift-whole (readKind s.args.kind) (weightsPart s) (ready called).small
+      c.Shift-of.ensures ∙ ap (λ (k : Kind). shift_of k (weights_part s)) c.before.before.read-kind.ensures
+      ∙ shift-whole (read_kind s.args.kind) (weights_part s) (ready called).small
 
   moves : to_z w64 (of_z w64 (start called).args.bound) +ℤ to_z w64 (of_z w64 c.Shift-of.result) ≡ (start called).args.bound +ℤ shift
   moves =

@@ -9,7 +9,7 @@ use mir.Syntax.{w64}
 use mir.Val.{SFits}
 use mir.Facts.{to_z-of_z}
 use Rattle.definitions.specs.Row.{Line}
-use Rattle.definitions.specs.Table.{Table, table, rowRoom}
+use Rattle.definitions.specs.Table.{Table, table, row_room}
 use Rattle.normaliser.specs.Fill.{LineFilled}
 use Rattle.definitions.proofs.Columns.{Lengths}
 use Rattle.normaliser.proofs.Fills.{Filling, filling-none, filling-lengths, filling-all, line, line-accepted, Fit}
@@ -51,7 +51,7 @@ held c = let l = c.loop in table l.outkinds l.outfirsts l.outcounts l.outbounds 
 lengths : (c : tie.At-loop invariant-loop decreases-loop) → Lengths (held c) (given c)
 lengths c = filling-lengths (lent c) (given c) (start c).requires c.loop.i c.loop.term (held c) c.loop.invariant.1
 
-below : (c : tie.In-loop invariant-loop decreases-loop) → c.before.loop.i < rowRoom (lent c.before)
+below : (c : tie.In-loop invariant-loop decreases-loop) → c.before.loop.i < row_room (lent c.before)
 below c = omega (arith, c.loop-test.true, c.before.before.row_room.ensures)
 
 fit : (c : tie.In-loop invariant-loop decreases-loop)

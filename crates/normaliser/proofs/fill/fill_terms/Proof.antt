@@ -11,24 +11,24 @@ use mir.Syntax.{w64}
 use mir.Val.{SFits}
 use mir.Facts.{to_z-of_z}
 use Rattle.definitions.specs.Lists.{over}
-use Rattle.definitions.specs.Row.{Term, term, weightOf, literalOf}
-use Rattle.definitions.specs.Table.{termsOn}
-use Rattle.definitions.specs.Normal.{normalBy, normalTerm}
-use Rattle.normaliser.specs.Fill.{saidTerm}
+use Rattle.definitions.specs.Row.{Term, term, weight_of, literal_of}
+use Rattle.definitions.specs.Table.{terms_on}
+use Rattle.definitions.specs.Normal.{normal_by, normal_term}
+use Rattle.normaliser.specs.Fill.{said_term}
 use Rattle.normaliser.proofs.NormalTerms.{size-of-one, Written, written_none, written-length, written-more, written_all}
 use Rattle.normaliser.proofs.fill.fill_terms.Statement.{statement}
 use Rattle.normaliser.proofs.fill.fill_terms.Tie as tie
 
-abbrev weightTo : Term → ℤ
-weightTo t = weightOf (normalTerm t)
+abbrev weight_to : Term → ℤ
+weight_to t = weight_of (normal_term t)
 
-abbrev literalTo : Term → ℕ
-literalTo t = literalOf (normalTerm t)
+abbrev literal_to : Term → ℕ
+literal_to t = literal_of (normal_term t)
 
 abbrev invariant-loop : tie.invariant-loop
 invariant-loop weights literals outweights₀ outliterals₀ i₀ outweights outliterals i =
-    (i ≤ length weights) × Written weightTo weights literals outweights₀ outweights i
-    × Written literalTo weights literals outliterals₀ outliterals i
+    (i ≤ length weights) × Written weight_to weights literals outweights₀ outweights i
+    × Written literal_to weights literals outliterals₀ outliterals i
 
 abbrev decreases-loop : tie.decreases-loop
 decreases-loop weights literals outweights₀ outliterals₀ i₀ outweights outliterals i = length weights - i
@@ -46,13 +46,13 @@ turn c = c.before.before.before.before.before
 weights-long : (l : tie.At-loop invariant-loop decreases-loop) → length l.loop.outweights ≡ length (start l).args.outweights.now
 weights-long l =
     let s = start l in
-    written-length weightTo s.args.weights.now s.args.literals.now s.args.outweights.now s.pre.even
+    written-length weight_to s.args.weights.now s.args.literals.now s.args.outweights.now s.pre.even
     s.pre.weights l.loop.outweights l.loop.i l.loop.invariant.0 l.loop.invariant.1
 
 literals-long : (l : tie.At-loop invariant-loop decreases-loop) → length l.loop.outliterals ≡ length (start l).args.outliterals.now
 literals-long l =
     let s = start l in
-    written-length literalTo s.args.weights.now s.args.literals.now s.args.outliterals.now s.pre.even
+    written-length literal_to s.args.weights.now s.args.literals.now s.args.outliterals.now s.pre.even
     s.pre.literals l.loop.outliterals l.loop.i l.loop.invariant.0 l.loop.invariant.2
 
 -- ---- the term that was made normal
@@ -62,18 +62,18 @@ read c =
     let a = (start c.before).args in
     term (get_or a.weights.now c.before.loop.i (pos 0)) (get_or a.literals.now c.before.loop.i 0)
 
-made : (c : tie.After-struct-told invariant-loop decreases-loop) → saidTerm c.before.normal-term.result ≡ normalTerm (read (turn c))
-unfolding normalTerm
+made : (c : tie.After-struct-told invariant-loop decreases-loop) → said_term c.before.normal-term.result ≡ normal_term (read (turn c))
+unfolding normal_term
 made c =
     let f : SFits w64 (read (turn c)).weight = record { sfits = c.before.before.before.before.normal-term-arg.given } in
-    (rw (to_z-of_z f) at c.before.normal-term.ensures) ∙ ap (normalBy (read (turn c)).weight) c.before.before.of_code.ensures
+    (rw (to_z-of_z f) at c.before.normal-term.ensures) ∙ ap (normal_by (read (turn c)).weight) c.before.before.of_code.ensures
 
 loop-holds : tie.Need-loop-init invariant-loop decreases-loop
 loop-holds c =
     let a = c.before.before.args in (
       omega arith,
-      written_none weightTo a.weights.now a.literals.now _,
-      written_none literalTo a.weights.now a.literals.now _,
+      written_none weight_to a.weights.now a.literals.now _,
+      written_none literal_to a.weights.now a.literals.now _,
     )
 
 mul-normal-term : tie.Need-overflow-mul-normal-term invariant-loop decreases-loop
@@ -132,11 +132,11 @@ loop-again c =
     let h = (turn k).loop-test.true in
     let f : SFits w64 k.before.normal-term.result.weight = record { sfits = k.struct_told.given.0.1 } in (
       omega (arith, h),
-      written-more weightTo s.args.weights.now s.args.literals.now s.args.outweights.now s.pre.even
-          s.pre.weights l.loop.outweights l.loop.i l.loop.inv.0 l.loop.inv.1 h _ (to_z-of_z f ∙ ap weightOf (made k)),
-      written-more literalTo s.args.weights.now s.args.literals.now s.args.outliterals.now s.pre.even
+      written-more weight_to s.args.weights.now s.args.literals.now s.args.outweights.now s.pre.even
+          s.pre.weights l.loop.outweights l.loop.i l.loop.inv.0 l.loop.inv.1 h _ (to_z-of_z f ∙ ap weight_of (made k)),
+      written-more literal_to s.args.weights.now s.args.literals.now s.args.outliterals.now s.pre.even
           s.pre.literals l.loop.outliterals l.loop.i l.loop.inv.0 l.loop.inv.2 h _
-          (c.code.ensures ∙ ap literalOf (made k)),
+          (c.code.ensures ∙ ap literal_of (made k)),
     )
 
 same_length : tie.Need-same-length invariant-loop decreases-loop
@@ -154,13 +154,13 @@ returns c =
     let cs = s.args.literals.now in
     record {
       weights =
-          written_all weightTo ws cs s.args.outweights.now s.pre.even s.pre.weights l.loop.outweights l.loop.i
+          written_all weight_to ws cs s.args.outweights.now s.pre.even s.pre.weights l.loop.outweights l.loop.i
           l.loop.invariant.0 l.loop.invariant.1 h
-          ∙ ap (λ (xs : List ℤ). over xs s.args.outweights.now) (sym (map-map weightOf normalTerm (termsOn ws cs)));
+          ∙ ap (λ (xs : List ℤ). over xs s.args.outweights.now) (sym (map-map weight_of normal_term (terms_on ws cs)));
       literals =
-          written_all literalTo ws cs s.args.outliterals.now s.pre.even s.pre.literals l.loop.outliterals l.loop.i
+          written_all literal_to ws cs s.args.outliterals.now s.pre.even s.pre.literals l.loop.outliterals l.loop.i
           l.loop.invariant.0 l.loop.invariant.2 h
-          ∙ ap (λ (xs : List ℕ). over xs s.args.outliterals.now) (sym (map-map literalOf normalTerm (termsOn ws cs)));
+          ∙ ap (λ (xs : List ℕ). over xs s.args.outliterals.now) (sym (map-map literal_of normal_term (terms_on ws cs)));
     }
 
 pub fill-terms-spec : {M : Type 1} → statement M

@@ -9,7 +9,7 @@ use mir.Syntax.{w64}
 use mir.Val.{SFits, of_z}
 use mir.Facts.{to_z-of_z}
 use Rattle.definitions.specs.Limits.{least, greatest}
-use Rattle.definitions.specs.Text.{boundOf}
+use Rattle.definitions.specs.Text.{bound_of}
 use Rattle.operators.proofs.BoundLaws.{same_bits, in-compared, least-less, greatest-more, less-fits, more-fits}
 use Rattle.operators.proofs.bound.bound_of.Statement.{statement}
 use Rattle.operators.proofs.bound.bound_of.Tie as tie
@@ -19,8 +19,8 @@ module _ (c : tie.After-enum-told3) where
   abbrev less-start : tie.Start
   less-start = c.before.before
 
-  less-bound : boundOf less-start.args.operator less-start.args.number ≡ less-start.args.number -ℤ pos 1
-  less-bound = ap (λ (p : OpbOperator). boundOf p less-start.args.number) c.enum-told3.given.1
+  less-bound : bound_of less-start.args.operator less-start.args.number ≡ less-start.args.number -ℤ pos 1
+  less-bound = ap (λ (p : OpbOperator). bound_of p less-start.args.number) c.enum-told3.given.1
 
   is-least : of_z w64 less-start.args.number ≡ of_z w64 least → less-start.args.number ≡ least
   is-least e = same_bits _ least less-start.fits.number (record { sfits = omega arith }) e
@@ -30,8 +30,8 @@ module _ (c : tie.After-enum-told4) where
   abbrev more-start : tie.Start
   more-start = c.before.before
 
-  more-bound : boundOf more-start.args.operator more-start.args.number ≡ more-start.args.number +ℤ pos 1
-  more-bound = ap (λ (p : OpbOperator). boundOf p more-start.args.number) c.enum-told4.given.1
+  more-bound : bound_of more-start.args.operator more-start.args.number ≡ more-start.args.number +ℤ pos 1
+  more-bound = ap (λ (p : OpbOperator). bound_of p more-start.args.number) c.enum-told4.given.1
 
   is-greatest : of_z w64 more-start.args.number ≡ of_z w64 greatest → more-start.args.number ≡ greatest
   is-greatest e = same_bits _ greatest more-start.fits.number (record { sfits = omega arith }) e

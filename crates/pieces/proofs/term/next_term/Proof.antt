@@ -5,8 +5,8 @@ use mathlib.Core.Path.{◌≡◌, sym, ap, ◌∙◌}
 use mir.Syntax.{w64}
 use mir.Val.{SFits}
 use mir.Facts.{to_z-of_z}
-use Rattle.definitions.specs.Text.{asStep, termStep}
-use Rattle.pieces.specs.Said.{saidTerm}
+use Rattle.definitions.specs.Text.{as_step, term_step}
+use Rattle.pieces.specs.Said.{said_term}
 use Rattle.pieces.proofs.Terms.{step-empty, step-stop, step-term}
 use Rattle.pieces.proofs.term.next_term.Statement.{statement}
 use Rattle.pieces.proofs.term.next_term.Tie as tie
@@ -16,9 +16,9 @@ module _ (c : tie.After-read-term) where
   abbrev start : tie.Start
   start = c.before.before.before.before.before.before.before
 
-  answer : asStep (saidTerm c.read-term.result) ≡ termStep start.args.options start.args.s.now
+  answer : as_step (said_term c.read-term.result) ≡ term_step start.args.options start.args.s.now
   answer =
-      ap asStep c.read-term.ensures
+      ap as_step c.read-term.ensures
       ∙ step-term _ _ c.before.before.before.before.before.if1.false _
       c.before.before.before.beginning-of.ensures c.before.enum_told.given.1
 
@@ -47,12 +47,12 @@ enum-known-weight : tie.Need-enum-known-weight
 enum-known-weight c = search rules
 
 returns-3 : tie.Need-returns-3
-returns-3 c = sym (ap (λ r. asStep (saidTerm r)) c.before.e.given.1) ∙ answer c.before.before.before
+returns-3 c = sym (ap (λ r. as_step (said_term r)) c.before.e.given.1) ∙ answer c.before.before.before
 
 returns-4 : tie.Need-returns-4
 returns-4 c =
     let f : SFits w64 c.before.weight.given.0.0 = record { sfits = c.known-told2.given.0.1 } in
-    rw (to_z-of_z f) (sym (ap (λ r. asStep (saidTerm r)) c.before.weight.given.1) ∙ answer c.before.before.before)
+    rw (to_z-of_z f) (sym (ap (λ r. as_step (said_term r)) c.before.weight.given.1) ∙ answer c.before.before.before)
 
 pub next-term-spec : {M : Type 1} → statement M
 next-term-spec =

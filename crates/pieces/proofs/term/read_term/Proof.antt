@@ -11,12 +11,12 @@ use mir.Val.{SFits}
 use mir.Facts.{to_z-of_z}
 use Rattle.definitions.specs.Reader.{got, more}
 use Rattle.definitions.specs.Number.{number}
-use Rattle.definitions.specs.Text.{afterWeight, weighted}
+use Rattle.definitions.specs.Text.{after_weight, weighted}
 use Rattle.definitions.proofs.Numbers.{number-within}
 use Rattle.definitions.proofs.Parts.{part-is}
 use Rattle.definitions.proofs.Statements.{within-after-weight}
 use Rattle.numbers.specs.Read.{said}
-use Rattle.pieces.specs.Said.{saidTerm}
+use Rattle.pieces.specs.Said.{said_term}
 use Rattle.pieces.proofs.Terms.{weighted-missing, weighted-number}
 use Rattle.pieces.proofs.term.read_term.Statement.{statement}
 use Rattle.pieces.proofs.term.read_term.Tie as tie
@@ -49,10 +49,10 @@ module _ (c : tie.After-read-weighted) where
   abbrev place : tie.After-known-told
   place = c.before.before
 
-  behind : saidTerm c.read-weighted.result ≡ afterWeight (start place).args.options (weight place) (drop (count place) (text place))
+  behind : said_term c.read-weighted.result ≡ after_weight (start place).args.options (weight place) (drop (count place) (text place))
   behind = rw (part-is (text place) (count place), to_z-of_z (weight-fits place)) at c.read-weighted.ensures
 
-  answer : more (count place) (saidTerm c.read-weighted.result) ≡ weighted (start place).args.options (text place)
+  answer : more (count place) (said_term c.read-weighted.result) ≡ weighted (start place).args.options (text place)
   answer = ap (more (count place)) behind ∙ weighted-number _ _ _ _ (read place)
 
 read-number-requires : tie.Need-read-number-requires
@@ -92,21 +92,21 @@ add-t17 c =
     omega (
       arith,
       (within-after-weight (start p).args.options (weight p)).most (drop (count p) (text p)) _ _
-          (sym (behind d) ∙ ap saidTerm c.before.weight.given.1),
+          (sym (behind d) ∙ ap said_term c.before.weight.given.1),
       length-drop (count p) (text p),
       taken p,
       (start p).good.0.0,
     )
 
 returns-2 : tie.Need-returns-2
-returns-2 c = sym (ap (λ r. more (count (place c.before.before.before)) (saidTerm r)) c.before.e.given.1)
+returns-2 c = sym (ap (λ r. more (count (place c.before.before.before)) (said_term r)) c.before.e.given.1)
     ∙ answer c.before.before.before
 
 returns-3 : tie.Need-returns-3
 returns-3 c =
     let d = c.before.before.before in
     let f : SFits w64 c.before.weight.given.0.0 = record { sfits = c.known-told3.given.0.1 } in
-    rw (to_z-of_z f) (sym (ap (λ r. more (count (place d)) (saidTerm r)) c.before.weight.given.1) ∙ answer d)
+    rw (to_z-of_z f) (sym (ap (λ r. more (count (place d)) (said_term r)) c.before.weight.given.1) ∙ answer d)
 
 pub read-term-spec : {M : Type 1} → statement M
 read-term-spec =

@@ -12,7 +12,7 @@ use Rattle.definitions.specs.Reader.{got}
 use Rattle.definitions.specs.Text.{literal}
 use Rattle.definitions.proofs.Parts.{part-is}
 use Rattle.definitions.proofs.Texts.{blanks-within}
-use Rattle.literal_read.specs.Said.{saidLiteral}
+use Rattle.literal_read.specs.Said.{said_literal}
 use Rattle.pieces.proofs.Terms.{literal-ends-within, blanks-end-within, after-weight-no-blank}
 use Rattle.pieces.proofs.Terms.{after-weight-no-literal, after-weight-literal}
 use Rattle.pieces.proofs.term.read_weighted.Statement.{statement}
@@ -35,7 +35,7 @@ module _ (c : tie.After-read-literal) where
   some : skipped ≡ 0 → ⊥
   some = c.before.before.if1.false
 
-  behind : saidLiteral c.read-literal.result ≡ literal start.args.options (drop skipped text)
+  behind : said_literal c.read-literal.result ≡ literal start.args.options (drop skipped text)
   behind = c.read-literal.ensures ∙ ap (literal start.args.options) (part-is text skipped)
 
 -- a literal is read
@@ -50,7 +50,7 @@ module _ (c : tie.After-known-told2) where
   count = c.before.literal.given.0.1.0
 
   read : got code count ≡ literal (start place).args.options (drop (skipped place) (text place))
-  read = sym (ap saidLiteral c.before.literal.given.1) ∙ behind place
+  read = sym (ap said_literal c.before.literal.given.1) ∙ behind place
 
   ends-within : skipped place + count ≤ length (text place)
   ends-within = literal-ends-within _ (text place) (skipped place) (skipped-is place) code count read
@@ -111,7 +111,7 @@ add-t19 c =
 returns-2 : tie.Need-returns-2
 returns-2 c =
     let p = c.before.before.before in
-    after-weight-no-literal _ _ _ (skipped-is p) _ (some p) _ (sym (ap saidLiteral c.before.e.given.1) ∙ behind p)
+    after-weight-no-literal _ _ _ (skipped-is p) _ (some p) _ (sym (ap said_literal c.before.e.given.1) ∙ behind p)
 
 returns-3 : tie.Need-returns-3
 returns-3 c =

@@ -5,7 +5,7 @@ use Prim.Native.Nat.{ℕ}
 use native.Mathlib.Omega.{arith}
 use borrow.Author.Rules.{rules}
 use Rattle.plain_parts.specs.InWord.{Begins}
-use Rattle.plain_parts.proofs.Gaps.{AtLane, gap_at, literal-marks}
+use Rattle.plain_parts.proofs.Gaps.{AtLane, gap_at_lem, literal-marks}
 use Rattle.plain_parts.proofs.PlainLanes.{lanes-between}
 use Rattle.plain_parts.proofs.PlainParts.{Fronted, literal-front, literal-far, literal-other, letter-says, tilde-near, tilde-says}
 use Rattle.plain_parts.proofs.parts.literal_in.Statement.{statement}
@@ -21,7 +21,7 @@ module _ (c : tie.After-first-gap) where
 -- the gap is in the word
 module _ (c : tie.Else1) where
   at : AtLane 2 c.before.first-gap.result
-  at = gap_at literal-marks c.before.first-gap.ensures (omega (arith, c.if1.false))
+  at = gap_at_lem literal-marks c.before.first-gap.ensures (omega (arith, c.if1.false))
 
 first-gap-requires : tie.Need-first-gap-requires
 first-gap-requires c κs = search rules

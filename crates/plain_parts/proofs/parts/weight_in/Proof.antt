@@ -5,7 +5,7 @@ use Prim.Native.Nat.{ℕ}
 use native.Mathlib.Omega.{arith}
 use borrow.Author.Rules.{rules}
 use Rattle.plain_parts.specs.InWord.{Begins}
-use Rattle.plain_parts.proofs.Gaps.{AtLane, gap_at, weight-marks}
+use Rattle.plain_parts.proofs.Gaps.{AtLane, gap_at_lem, weight-marks}
 use Rattle.plain_parts.proofs.PlainLanes.{lanes-between}
 use Rattle.plain_parts.proofs.PlainParts.{Fronted, weight-front, weight-above, weight-far, minus-near, minus-says, unsigned-says}
 use Rattle.plain_parts.proofs.parts.weight_in.Statement.{statement}
@@ -21,7 +21,7 @@ module _ (c : tie.After-first-gap) where
 -- the gap is in the word
 module _ (c : tie.Else2) where
   at : AtLane 1 c.before.first-gap.result
-  at = gap_at weight-marks c.before.first-gap.ensures (omega (arith, c.if2.false))
+  at = gap_at_lem weight-marks c.before.first-gap.ensures (omega (arith, c.if2.false))
 
 returns : tie.Need-returns
 returns c = λ s b. weight-above s _ b.bytes c.if1.true

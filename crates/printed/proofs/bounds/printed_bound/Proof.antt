@@ -6,7 +6,7 @@ use mir.Val.{SFits}
 use mir.Facts.{to_z-of_z}
 use Rattle.definitions.specs.Table.{and_then}
 use Rattle.printed.specs.declared.bounds.Bound.{Bound}
-use Rattle.printed.specs.Bounds.{within, saidBound, boundBefore, fallenBound}
+use Rattle.printed.specs.Bounds.{within, said_bound, bound_before, fallen_bound}
 use Rattle.printed.proofs.Differences.{printed-over, printed-then}
 use Rattle.printed.proofs.bounds.printed_bound.Statement.{statement}
 use Rattle.printed.proofs.bounds.printed_bound.Tie as tie
@@ -15,7 +15,7 @@ module _ (c : tie.After-flipped-bound) where
   abbrev start : tie.Start
   start = c.before.before.before
 
-  flipped : saidBound c.flipped-bound.result ≡ within (boundBefore start.args.kind start.args.bound start.args.sums.total)
+  flipped : said_bound c.flipped-bound.result ≡ within (bound_before start.args.kind start.args.bound start.args.sums.total)
   flipped = c.flipped-bound.ensures ∙ rw (to_z-of_z start.fits.bound)
 
 returns : tie.Need-returns
@@ -39,15 +39,15 @@ returns-2 c =
     let s = start d in
     let f : SFits w64 c.before.before.b.given.0.0 = record { sfits = c.before.known-told.given.0.1 } in
     c.fallen-bound.ensures
-    ∙ ap (fallenBound s.args.kind s.args.sums.fall) (to_z-of_z f)
-    ∙ sym (ap (λ (r : Bound). and_then (saidBound r) (fallenBound s.args.kind s.args.sums.fall)) c.before.before.b.given.1)
+    ∙ ap (fallen_bound s.args.kind s.args.sums.fall) (to_z-of_z f)
+    ∙ sym (ap (λ (r : Bound). and_then (said_bound r) (fallen_bound s.args.kind s.args.sums.fall)) c.before.before.b.given.1)
     ∙ printed-then s.args.kind s.args.bound s.args.sums.total s.args.sums.fall _ d.before.if1.false (flipped d)
 
 returns-3 : tie.Need-returns-3
 returns-3 c =
     let d = c.before.before in
     let s = start d in
-    sym (ap (λ (r : Bound). and_then (saidBound r) (fallenBound s.args.kind s.args.sums.fall)) c.enum_told.given.1)
+    sym (ap (λ (r : Bound). and_then (said_bound r) (fallen_bound s.args.kind s.args.sums.fall)) c.enum_told.given.1)
     ∙ printed-then s.args.kind s.args.bound s.args.sums.total s.args.sums.fall _ d.before.if1.false (flipped d)
 
 pub printed-bound-spec : {M : Type 1} → statement M

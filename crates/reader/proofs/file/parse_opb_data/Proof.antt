@@ -2,7 +2,7 @@
 -- (proofs/Files.antt).
 use mathlib.Core.Path.{◌≡◌, sym, ap, ◌∙◌}
 use borrow.Author.Rules.{rules}
-use Rattle.definitions.specs.Answers.{saidCounted}
+use Rattle.definitions.specs.Answers.{said_counted}
 use Rattle.definitions.specs.Table.{Table, table, counted}
 use Rattle.definitions.specs.File.{reading}
 use Rattle.reader.proofs.Files.{reading-said, read-refused, ready}
@@ -19,7 +19,7 @@ module _ (c : tie.After-fitted) where
       start.args.weights.now
       start.args.literals.now
 
-  said : saidCounted c.fitted.result ≡ counted (reading start.args.options start.args.s.now lent)
+  said : said_counted c.fitted.result ≡ counted (reading start.args.options start.args.s.now lent)
   said =
       reading-said start.args.options start.args.s.now lent c.before.count-file.result c.fitted.result
       (rw (c.before.before.term-room.ensures, c.before.before.before.before.before.row_room.ensures) at c.fitted.ensures)
@@ -46,7 +46,7 @@ enum-known-found c = search rules
 fill-file-requires : tie.Need-fill-file-requires
 fill-file-requires c κs =
     let d = c.before.before.before.before.before.before.before.before.before in
-    ready _ _ (lent d) _ (sym (ap saidCounted c.before.before.before.before.before.before.before.found.given.1) ∙ said d)
+    ready _ _ (lent d) _ (sym (ap said_counted c.before.before.before.before.before.before.before.found.given.1) ∙ said d)
 
 same_length : tie.Need-same-length
 same_length c = search rules
@@ -69,7 +69,7 @@ same-length-6 c = search rules
 returns : tie.Need-returns
 returns c =
     let d = c.before.before.before in
-    read-refused _ _ (lent d) _ (sym (ap saidCounted c.before.refusal.given.1) ∙ said d)
+    read-refused _ _ (lent d) _ (sym (ap said_counted c.before.refusal.given.1) ∙ said d)
 
 same-length-7 : tie.Need-same-length-7
 same-length-7 c = search rules
@@ -95,7 +95,7 @@ returns-2 c =
     let f = g.before.before.before.before.before.before.before.before in
     let d = f.before.before in
     record {
-      answer = sym (ap saidCounted f.found.given.1) ∙ said d;
+      answer = sym (ap said_counted f.found.given.1) ∙ said d;
       after = g.fill-file.ensures;
     }
 

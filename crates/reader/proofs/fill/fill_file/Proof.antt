@@ -14,7 +14,7 @@ use Rattle.definitions.specs.Table.{Table, table}
 use Rattle.definitions.specs.Walk.{item}
 use Rattle.definitions.proofs.Parts.{part-is}
 use Rattle.definitions.specs.declared.Entry.{Entry}
-use Rattle.statements.specs.Said.{saidStatement}
+use Rattle.statements.specs.Said.{said_statement}
 use Rattle.statements.specs.Walked.{StatementWalked}
 use Rattle.definitions.proofs.Columns.{rest_of, Lengths}
 use Rattle.reader.proofs.FillLines.{Good, good_of, Fills, fills-start, fills-lengths, fills-heavy, fills-known, fills-done}
@@ -52,10 +52,10 @@ module _ (c : tie.At-loop invariant-loop decreases-loop) where
   good : Good start.args.options text lent
   good = good_of start.args.options text lent start.pre.given start.pre.reads
 
-  abbrev filledSo : Table
-  filledSo = table c.loop.kinds c.loop.firsts c.loop.counts c.loop.bounds c.loop.weights c.loop.literals
+  abbrev filled_so : Table
+  filled_so = table c.loop.kinds c.loop.firsts c.loop.counts c.loop.bounds c.loop.weights c.loop.literals
 
-  lengths : Lengths filledSo lent
+  lengths : Lengths filled_so lent
   lengths = fills-lengths _ _ _ good _ _ _ _ c.loop.invariant
 
   heavy : c.loop.term ≤ length lent.weights
@@ -90,8 +90,8 @@ module _ (c : tie.After-known-told invariant-loop decreases-loop) where
   abbrev bytes : ℕ
   bytes = c.before.entry.given.0.1.0
 
-  said : item found bytes ≡ saidStatement here.walk-statement.result
-  said = sym (ap saidStatement c.before.entry.given.1)
+  said : item found bytes ≡ said_statement here.walk-statement.result
+  said = sym (ap said_statement c.before.entry.given.1)
 
   moves : LineMoves _ _ _ (good (turn here)) _ _ _ _ (turn here).loop.inv here.walk-statement.result _ _ (left here) found bytes said
   moves =

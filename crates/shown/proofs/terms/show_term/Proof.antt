@@ -10,7 +10,7 @@ use mir.Syntax.{w64}
 use mir.Val.{SFits, to_z, of_z}
 use mir.Facts.{to_z-of_z}
 use Rattle.definitions.specs.Literal.{index_of, negated}
-use Rattle.shown.specs.Terms.{flippedCode, ownWeight}
+use Rattle.shown.specs.Terms.{flipped_code, own_weight}
 use Rattle.shown.proofs.OneTerm.{own-term, shows-as, negative_fits, shows-below, shows-fallen, shows-negated, shows-plain}
 use Rattle.shown.proofs.terms.show_term.Statement.{statement}
 use Rattle.shown.proofs.terms.show_term.Tie as tie
@@ -20,13 +20,13 @@ module _ (c : tie.After-var) where
   start = c.before.before.before
 
   abbrev own : ℤ
-  own = ownWeight start.args.style.unit start.args.weight
+  own = own_weight start.args.style.unit start.args.weight
 
   own-fits : SFits w64 c.before.before.own-weight.result
   own-fits = sfits_of c.before.before.own-weight.type-inv
 
   own_is : c.before.before.own-weight.result ≡ own
-  own_is = c.before.before.own-weight.ensures ∙ ap (ownWeight start.args.style.unit) (to_z-of_z start.fits.weight)
+  own_is = c.before.before.own-weight.ensures ∙ ap (own_weight start.args.style.unit) (to_z-of_z start.fits.weight)
 
   weight_is : to_z w64 (of_z w64 c.before.before.own-weight.result) ≡ own
   weight_is = to_z-of_z own-fits ∙ own_is
@@ -45,10 +45,10 @@ negated_fits : (c : tie.After-is-negated) → SFits w64 (pos 0 -ℤ (tested c).b
 negated_fits c = negative_fits _ (own-fits (tested c)) (rw (to_z-of_z (own-fits (tested c))) at c.before.if1.false)
 
 sign-is : (c : tie.After-is-negated)
-    → c.is-negated.result ≡ negated (flippedCode (start (tested c)).args.style.flip (start (tested c)).args.code)
+    → c.is-negated.result ≡ negated (flipped_code (start (tested c)).args.style.flip (start (tested c)).args.code)
 sign-is c =
     c.is-negated.ensures
-    ∙ ap (λ (n : ℕ). negated (flippedCode (start (tested c)).args.style.flip n)) (tested c).before.of_code.ensures
+    ∙ ap (λ (n : ℕ). negated (flipped_code (start (tested c)).args.style.flip n)) (tested c).before.of_code.ensures
 
 own-weight-requires : tie.Need-own-weight-requires
 own-weight-requires c κs = search rules

@@ -9,9 +9,9 @@ use Rattle.definitions.specs.Reader.{more}
 use Rattle.definitions.specs.Text.{comparison}
 use Rattle.definitions.proofs.Parts.{part-is}
 use Rattle.definitions.proofs.Statements.{sum-within}
-use Rattle.closings.specs.Closed.{saidRow, closedBy}
+use Rattle.closings.specs.Closed.{said_row, closed_by}
 use Rattle.statements.specs.Fitting.{Fitting}
-use Rattle.sums.specs.Brief.{saidSum}
+use Rattle.sums.specs.Brief.{said_sum}
 use Rattle.statements.proofs.Rows.{constraint-no-sum, constraint-sum, closed-fits}
 use Rattle.sums.proofs.Sums.{SumIs, sum_of, sum-refused}
 use Rattle.statements.proofs.statement.constraint.Statement.{statement}
@@ -37,7 +37,7 @@ module _ (c : tie.After-known-told2) where
   sum_is : SumIs start.args.options text terms size count
   sum_is =
       sum_of _ text terms size count
-      (sym (ap saidSum c.before.terms.given.1) ∙ c.before.before.before.before.before.before.weighted-lit-sum.ensures.answer)
+      (sym (ap said_sum c.before.terms.given.1) ∙ c.before.before.before.before.before.before.weighted-lit-sum.ensures.answer)
 
   within : count ≤ length text
   within = (sum-within start.args.options text sum_is.terms count sum_is.is).0
@@ -74,11 +74,11 @@ module _ (c : tie.After-close-constraint) where
   abbrev told : tie.After-known-told2
   told = c.before.before
 
-  closed : saidRow c.close-constraint.result
-      ≡ closedBy (start told).args.options (terms told) (size told) (comparison (drop (count told) (text told)))
+  closed : said_row c.close-constraint.result
+      ≡ closed_by (start told).args.options (terms told) (size told) (comparison (drop (count told) (text told)))
   closed =
       c.close-constraint.ensures
-      ∙ ap (λ (t : List ℕ). closedBy (start told).args.options (terms told) (size told) (comparison t)) (part-is (text told) (count told))
+      ∙ ap (λ (t : List ℕ). closed_by (start told).args.options (terms told) (size told) (comparison t)) (part-is (text told) (count told))
 
 behind-requires : tie.Need-behind-requires
 behind-requires c κs =
@@ -92,7 +92,7 @@ returns c =
     record {
       answer =
           constraint-no-sum _ _ _
-          (sum-refused _ _ _ (sym (ap saidSum c.before.e.given.1)
+          (sum-refused _ _ _ (sym (ap said_sum c.before.e.given.1)
           ∙ c.before.before.before.before.before.before.weighted-lit-sum.ensures.answer));
       filled = c.before.before.before.before.before.before.weighted-lit-sum.ensures.filled;
     }

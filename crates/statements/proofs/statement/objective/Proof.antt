@@ -7,16 +7,16 @@ use native.Mathlib.Omega.{arith}
 use borrow.Author.Rules.{rules}
 use lib.ListN.{length, drop, length-drop}
 use Rattle.definitions.specs.Reader.{got, more}
-use Rattle.definitions.specs.Text.{sum, minBlanks, ending}
+use Rattle.definitions.specs.Text.{sum, min_blanks, ending}
 use Rattle.definitions.proofs.Parts.{part-is}
 use Rattle.definitions.proofs.Statements.{sum-within, within-min-blanks}
-use Rattle.beginnings.specs.Said.{saidMin}
+use Rattle.beginnings.specs.Said.{said_min}
 use Rattle.sums.specs.Brief.{summed}
-use Rattle.closings.specs.Closed.{saidRow, endedBy}
+use Rattle.closings.specs.Closed.{said_row, ended_by}
 use Rattle.statements.specs.Fitting.{Fitting}
-use Rattle.sums.specs.Brief.{saidSum}
+use Rattle.sums.specs.Brief.{said_sum}
 use Rattle.sums.specs.Walked.{TermsPut}
-use Rattle.statements.specs.Met.{goalMet}
+use Rattle.statements.specs.Met.{goal_met}
 use Rattle.statements.proofs.MetTerms.{none-put, goal-none, goal-behind}
 use Rattle.statements.proofs.Rows.{goal-no-min, goal-no-sum, goal-sum, ended-fits}
 use Rattle.sums.proofs.Sums.{SumIs, sum_of, sum-refused}
@@ -37,10 +37,10 @@ module _ (c : tie.After-known-told) where
   abbrev min-end : ℕ
   min-end = blanks + 4
 
-  min-got : minBlanks text ≡ got blanks min-end
+  min-got : min_blanks text ≡ got blanks min-end
   min-got =
       let e : 4 + blanks ≡ blanks + 4 = omega arith in
-      sym c.before.before.before.read-min.ensures ∙ ap saidMin c.before.k.given.1 ∙ ap (got blanks) e
+      sym c.before.before.before.read-min.ensures ∙ ap said_min c.before.k.given.1 ∙ ap (got blanks) e
 
   min-within : min-end ≤ length text
   min-within = within-min-blanks.most text blanks min-end min-got
@@ -50,13 +50,13 @@ module _ (c : tie.After-weighted-lit-sum) where
   abbrev behind-min : tie.After-known-told
   behind-min = c.before.before.before.before
 
-  sum_said : saidSum c.weighted-lit-sum.result
+  sum_said : said_sum c.weighted-lit-sum.result
       ≡ summed (sum (start behind-min).args.options (drop (min-end behind-min) (text behind-min)))
   sum_said =
       c.weighted-lit-sum.ensures.answer
       ∙ ap (λ (t : List ℕ). summed (sum (start behind-min).args.options t)) (part-is (text behind-min) (min-end behind-min))
 
-  sum-put : TermsPut (goalMet (start behind-min).args.options (text behind-min)) (start behind-min).args.weights.now
+  sum-put : TermsPut (goal_met (start behind-min).args.options (text behind-min)) (start behind-min).args.weights.now
       (start behind-min).args.literals.now
       c.weighted-lit-sum.new.1.1.0 c.weighted-lit-sum.new.1.1.1.0
   sum-put =
@@ -87,7 +87,7 @@ module _ (c : tie.After-known-told3) where
   count = c.before.terms.given.0.1.1.0
 
   sum_is : SumIs (start (behind-min at_sum)).args.options (drop from whole) terms size count
-  sum_is = sum_of _ (drop from whole) terms size count (sym (ap saidSum c.before.terms.given.1) ∙ sum_said at_sum)
+  sum_is = sum_of _ (drop from whole) terms size count (sym (ap said_sum c.before.terms.given.1) ∙ sum_said at_sum)
 
   sum-end-within : from + count ≤ length whole
   sum-end-within =
@@ -109,7 +109,7 @@ enum_told c = search rules
 
 returns : tie.Need-returns
 returns c =
-    let q = sym c.before.before.read-min.ensures ∙ ap saidMin c.enum_told.given.1 in
+    let q = sym c.before.before.read-min.ensures ∙ ap said_min c.enum_told.given.1 in
     record { answer = goal-no-min _ _ q; filled = rw (goal-none _ _ _ q) (none-put _ _) }
 
 add_a : tie.Need-overflow-add-a
@@ -156,11 +156,11 @@ module _ (c : tie.After-close-objective) where
   abbrev end : ℕ
   end = from told + count told
 
-  closed : saidRow c.close-objective.result
-      ≡ endedBy (start (behind-min (at_sum told))).args.options (terms told) (size told) (ending (drop end (whole told)))
+  closed : said_row c.close-objective.result
+      ≡ ended_by (start (behind-min (at_sum told))).args.options (terms told) (size told) (ending (drop end (whole told)))
   closed =
       c.close-objective.ensures
-      ∙ ap (λ (t : List ℕ). endedBy (start (behind-min (at_sum told))).args.options (terms told) (size told) (ending t))
+      ∙ ap (λ (t : List ℕ). ended_by (start (behind-min (at_sum told))).args.options (terms told) (size told) (ending t))
       (part-is (whole told) end)
 
 behind-requires : tie.Need-behind-requires
@@ -181,7 +181,7 @@ returns-2 c =
     let d = c.before.before.before.before.before.before in
     let b = behind-min d in
     record {
-      answer = goal-no-sum _ (text b) _ _ (min-got b) _ (sum-refused _ _ _ (sym (ap saidSum c.before.e.given.1) ∙ sum_said d));
+      answer = goal-no-sum _ (text b) _ _ (min-got b) _ (sum-refused _ _ _ (sym (ap said_sum c.before.e.given.1) ∙ sum_said d));
       filled = sum-put d;
     }
 

@@ -6,7 +6,7 @@ use mathlib.Core.Path.{◌≡◌, sym, ap, subst, ◌∙◌}
 use native.Mathlib.Omega.{arith}
 use borrow.Author.Rules.{rules}
 use lib.ListN.{length, get_or, drop, length-drop}
-use Rattle.definitions.specs.Bytes.{blanks, begins, classOf}
+use Rattle.definitions.specs.Bytes.{blanks, begins, class_of}
 use Rattle.definitions.specs.Reader.{Got}
 use Rattle.definitions.specs.Text.{remark, goal, constraint}
 use Rattle.definitions.specs.declared.Entry.{Entry}
@@ -15,11 +15,11 @@ use Rattle.definitions.specs.declared.Beginning.TheVariants.{Comment, Objective,
 use Rattle.definitions.specs.declared.Options.{Options}
 use Rattle.definitions.proofs.Parts.{part-is}
 use Rattle.definitions.proofs.Statements.{goal-taken, constraint-taken}
-use Rattle.beginnings.specs.Said.{saidComment}
-use Rattle.statements.specs.Brief.{briefRow, rowAfter, commentAfter}
+use Rattle.beginnings.specs.Said.{said_comment}
+use Rattle.statements.specs.Brief.{brief_row, row_after, comment_after}
 use Rattle.statements.specs.Fitting.{Fitting}
-use Rattle.closings.specs.Closed.{saidRow}
-use Rattle.statements.specs.Met.{metBy, statementMet}
+use Rattle.closings.specs.Closed.{said_row}
+use Rattle.statements.specs.Met.{met_by, statement_met}
 use Rattle.statements.proofs.MetTerms.{none-put, end-met, met-begun}
 use Rattle.statements.proofs.Rows.{row_fits, comment-fits, statement-end, statement-comment, statement-goal}
 use Rattle.statements.proofs.Rows.{statement-constraint, statement-nothing}
@@ -52,10 +52,10 @@ module _ (c : tie.After-begins) where
   fits : gap + length rest < 2 ^ 64
   fits = omega (arith, gap_below, length-drop gap text, start.good.0.0)
 
-  begun : c.begins.result ≡ begins (classOf (get_or text gap 0))
+  begun : c.begins.result ≡ begins (class_of (get_or text gap 0))
   begun = c.begins.ensures ∙ ap begins c.before.class_of.ensures
 
-  met-is : (q : Beginning) → c.begins.result ≡ q → statementMet options text ≡ metBy q options rest
+  met-is : (q : Beginning) → c.begins.result ≡ q → statement_met options text ≡ met_by q options rest
   met-is q e = met-begun options text gap gap_is gap_below c.begins.result begun q e
 
 -- a comment
@@ -63,7 +63,7 @@ module _ (c : tie.After-read-comment) where
   abbrev at-comment : tie.After-begins
   at-comment = c.before.before.before.before
 
-  comment-is : saidComment c.read-comment.result ≡ remark (rest at-comment)
+  comment-is : said_comment c.read-comment.result ≡ remark (rest at-comment)
   comment-is = c.read-comment.ensures ∙ ap remark (part-is (text at-comment) (gap at-comment))
 
 -- an objective
@@ -71,20 +71,20 @@ module _ (c : tie.After-objective) where
   abbrev at-objective : tie.After-begins
   at-objective = c.before.before.before.before.before.before
 
-  objective-is : saidRow c.objective.result ≡ briefRow (goal (options at-objective) (rest at-objective))
+  objective-is : said_row c.objective.result ≡ brief_row (goal (options at-objective) (rest at-objective))
   objective-is =
       c.objective.ensures.answer
-      ∙ ap (λ (t : List ℕ). briefRow (goal (options at-objective) t)) (part-is (text at-objective) (gap at-objective))
+      ∙ ap (λ (t : List ℕ). brief_row (goal (options at-objective) t)) (part-is (text at-objective) (gap at-objective))
 
 -- a constraint
 module _ (c : tie.After-constraint) where
   abbrev at-constraint : tie.After-begins
   at-constraint = c.before.before.before.before.before.before
 
-  constraint-is : saidRow c.constraint.result ≡ briefRow (constraint (options at-constraint) (rest at-constraint))
+  constraint-is : said_row c.constraint.result ≡ brief_row (constraint (options at-constraint) (rest at-constraint))
   constraint-is =
       c.constraint.ensures.answer
-      ∙ ap (λ (t : List ℕ). briefRow (constraint (options at-constraint) t)) (part-is (text at-constraint) (gap at-constraint))
+      ∙ ap (λ (t : List ℕ). brief_row (constraint (options at-constraint) t)) (part-is (text at-constraint) (gap at-constraint))
 
 blanks-of-requires : tie.Need-blanks-of-requires
 blanks-of-requires c κs = search rules
@@ -176,7 +176,7 @@ returns-2 c =
     let q = c.before.before.before.enum_told.given.1 in
     record {
       answer =
-          c.comment-after.ensures ∙ ap (commentAfter (gap d)) (comment-is c.before)
+          c.comment-after.ensures ∙ ap (comment_after (gap d)) (comment-is c.before)
           ∙ statement-comment (options d) (text d) (gap d) (gap_is d) (gap_below d) _ (begun d) q;
       filled = rw (met-is d Comment q) (none-put _ _);
     }
@@ -194,7 +194,7 @@ returns-3 c =
     let q = r.before.before.before.before.enum-told2.given.1 in
     record {
       answer =
-          c.row-after.ensures ∙ ap (rowAfter (gap d)) (objective-is r)
+          c.row-after.ensures ∙ ap (row_after (gap d)) (objective-is r)
           ∙ statement-goal (options d) (text d) (gap d) (gap_is d) (gap_below d) _ (begun d) q;
       filled = rw (met-is d Objective q, ← part-is (text d) (gap d)) r.objective.ensures.filled;
     }
@@ -212,7 +212,7 @@ returns-4 c =
     let q = r.before.before.before.before.enum-told3.given.1 in
     record {
       answer =
-          c.row-after2.ensures ∙ ap (rowAfter (gap d)) (constraint-is r)
+          c.row-after2.ensures ∙ ap (row_after (gap d)) (constraint-is r)
           ∙ statement-constraint (options d) (text d) (gap d) (gap_is d) (gap_below d) _ (begun d) q;
       filled = rw (met-is d Constraint q, ← part-is (text d) (gap d)) r.constraint.ensures.filled;
     }

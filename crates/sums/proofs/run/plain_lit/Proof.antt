@@ -3,7 +3,7 @@
 use borrow.Author.Rules.{rules}
 use mathlib.Core.Path.{◌≡◌, sym, ap, ◌∙◌}
 use Rattle.definitions.specs.Literal.{index}
-use Rattle.literals.specs.Said.{saidFileNumber, saidVar}
+use Rattle.literals.specs.Said.{said_file_number, said_var}
 use Rattle.literals.proofs.Conversions.{index-of-digits, index-of-digits-refused}
 use Rattle.sums.proofs.Runs.{plain-indexed, plain-coded}
 use Rattle.sums.proofs.run.plain_lit.Statement.{statement}
@@ -17,9 +17,9 @@ module _ (c : tie.After-of-file) where
   abbrev start : tie.Start
   start = digits.before
 
-  var-read : saidVar c.of-file.result ≡ index start.args.first start.args.term.number
+  var-read : said_var c.of-file.result ≡ index start.args.first start.args.term.number
   var-read =
-      c.of-file.ensures ∙ index-of-digits _ _ _ (sym (ap saidFileNumber c.before.before.n.given.1) ∙ digits.of-digits.ensures)
+      c.of-file.ensures ∙ index-of-digits _ _ _ (sym (ap said_file_number c.before.before.n.given.1) ∙ digits.of-digits.ensures)
 
 of-digits-requires : tie.Need-of-digits-requires
 of-digits-requires c κs = search rules
@@ -34,7 +34,7 @@ returns : tie.Need-returns
 returns c =
     let digits = c.before.before in
     absurd (plain-indexed digits.before.requires
-    (index-of-digits-refused _ _ (sym (ap saidFileNumber c.enum_told.given.1) ∙ digits.of-digits.ensures)))
+    (index-of-digits-refused _ _ (sym (ap said_file_number c.enum_told.given.1) ∙ digits.of-digits.ensures)))
 
 of-file-requires : tie.Need-of-file-requires
 of-file-requires c κs = search rules
@@ -48,7 +48,7 @@ enum-told-2 c = search rules
 returns-2 : tie.Need-returns-2
 returns-2 c =
     let v = c.before.before in
-    absurd (plain-indexed (start v).requires (sym (ap saidVar c.enum-told2.given.1) ∙ var-read v))
+    absurd (plain-indexed (start v).requires (sym (ap said_var c.enum-told2.given.1) ∙ var-read v))
 
 lit-requires : tie.Need-lit-requires
 lit-requires c κs = search rules
@@ -56,7 +56,7 @@ lit-requires c κs = search rules
 returns-3 : tie.Need-returns-3
 returns-3 c =
     let v = c.before.before.before.before in
-    plain-coded (start v).requires (sym (ap saidVar c.before.before.v.given.1) ∙ var-read v) c.lit.ensures
+    plain-coded (start v).requires (sym (ap said_var c.before.before.v.given.1) ∙ var-read v) c.lit.ensures
 
 pub plain-lit-spec : {M : Type 1} → statement M
 plain-lit-spec =

@@ -8,9 +8,9 @@ use mathlib.Core.Logic.{⊎_elim}
 use mir.Syntax.{w64}
 use mir.Val.{to_z}
 use Rattle.definitions.specs.Number.{signed}
-use Rattle.literals.specs.Said.{saidLit}
+use Rattle.literals.specs.Said.{said_lit}
 use Rattle.literals.proofs.Conversions.{accepted, no-refusal}
-use Rattle.plain.specs.Plain.{plainTerm}
+use Rattle.plain.specs.Plain.{plain_term}
 use Rattle.sums.proofs.Walking.{put-there, put-nowhere}
 use Rattle.sums.proofs.Runs.{minus-fits, weight-negative, weight-plain}
 use Rattle.sums.proofs.run.put_plain.Statement.{statement}
@@ -24,8 +24,8 @@ module _ (c : tie.After-known-told) where
   abbrev start : tie.Start
   start = lit.before.before.before.before.before.before
 
-  code_is : {x : ℕ} → x ≡ c.before.literal.given.0.0.0 → x ≡ (plainTerm start.args.first start.args.term).code
-  code_is e = e ∙ accepted _ _ (sym (ap saidLit c.before.literal.given.1) ∙ lit.plain-lit.ensures)
+  code_is : {x : ℕ} → x ≡ c.before.literal.given.0.0.0 → x ≡ (plain_term start.args.first start.args.term).code
+  code_is e = e ∙ accepted _ _ (sym (ap said_lit c.before.literal.given.1) ∙ lit.plain-lit.ensures)
 
 -- and the weight
 module _ (c : tie.Joined2) where
@@ -58,7 +58,7 @@ same-length-2 : tie.Need-same-length-2
 same-length-2 c = search rules
 
 returns : tie.Need-returns
-returns c = absurd (no-refusal _ 5 (sym c.before.before.plain-lit.ensures ∙ ap saidLit c.enum_told.given.1))
+returns c = absurd (no-refusal _ 5 (sym c.before.before.plain-lit.ensures ∙ ap said_lit c.enum_told.given.1))
 
 cast-size : tie.Need-overflow-cast-size
 cast-size c = search rules

@@ -5,8 +5,8 @@ use mathlib.Core.List.{List}
 use native.Mathlib.Omega.{arith}
 use borrow.Author.Rules.{rules}
 use lib.ListN.{length}
-use Rattle.items.specs.Items.{Found, spot_of, found_from, end_at, itemBy}
-use Rattle.tokens.specs.NextTokens.{stepAt}
+use Rattle.items.specs.Items.{Found, spot_of, found_from, end_at, item_by}
+use Rattle.tokens.specs.NextTokens.{step_at}
 use Rattle.items.specs.declared.NextItem.{NextItem}
 use Rattle.items.proofs.Spots.{TokenMet, token-met}
 use Rattle.items.proofs.Found.{found-end, found-line, found-token}
@@ -25,7 +25,7 @@ module _ (c : tie.After-next-item) where
   first = found_from start.before.args.front start.before.args.from text
 
   -- the item that was met
-  met-item : (r : NextItem) → c.next-item.result ≡ r → r ≡ itemBy text first
+  met-item : (r : NextItem) → c.next-item.result ≡ r → r ≡ item_by text first
   met-item r e = sym e ∙ c.next-item.ensures
 
 -- a token is met
@@ -78,12 +78,12 @@ met-requires c κs = search rules
 returns : tie.Need-returns
 returns c =
     let d = c.before.before in
-    ap (stepAt (start d).before.args.named (text d)) (found-end (text d) (first d) (met-item d _ c.enum_told.given.1))
+    ap (step_at (start d).before.args.named (text d)) (found-end (text d) (first d) (met-item d _ c.enum_told.given.1))
 
 returns-2 : tie.Need-returns-2
 returns-2 c =
     let d = c.before.before.before in
-    ap (stepAt (start d).before.args.named (text d)) (found-line (text d) (first d) _ (met-item d _ c.before.place.given.1))
+    ap (step_at (start d).before.args.named (text d)) (found-line (text d) (first d) _ (met-item d _ c.before.place.given.1))
 
 returns-3 : tie.Need-returns-3
 returns-3 c =

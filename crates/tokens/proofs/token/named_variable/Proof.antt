@@ -3,9 +3,9 @@
 use mathlib.Core.Path.{◌≡◌, sym, ap, ◌∙◌}
 use lib.ListN.{drop}
 use Rattle.definitions.specs.Table.{and_then}
-use Rattle.definitions.specs.Values.{wholeNumber, literalFor, namedVariable}
+use Rattle.definitions.specs.Values.{whole_number, literal_for, named_variable}
 use Rattle.definitions.proofs.Parts.{part-is}
-use Rattle.tokens.specs.Said.{saidWhole, capped}
+use Rattle.tokens.specs.Said.{said_whole, capped}
 use Rattle.tokens.specs.declared.token.Whole.{Whole}
 use Rattle.tokens.proofs.Says.{capped-then, capped-literal, named-empty, named_other, named-x}
 use borrow.Author.Rules.{rules}
@@ -14,16 +14,16 @@ use Rattle.tokens.proofs.token.named_variable.Tie as tie
 
 -- what the number behind the `x` says, whether it stopped at the cap or not
 answer : (c : tie.After-whole-number) (w : Whole) → c.whole-number.result ≡ w
-    → and_then (saidWhole w) (literalFor c.before.before.before.before.before.before.args.negative)
-    ≡ namedVariable c.before.before.before.before.before.before.args.negative
+    → and_then (said_whole w) (literal_for c.before.before.before.before.before.before.args.negative)
+    ≡ named_variable c.before.before.before.before.before.before.args.negative
     c.before.before.before.before.before.before.args.s.now
 answer c w e =
     let x = c.before.before in
     let b = x.before.before in
     let a = b.before.before.args in
     let s = a.s.now in
-    capped-then (literalFor a.negative) (capped-literal a.negative) (saidWhole w) (wholeNumber (drop 1 s))
-    (sym (ap saidWhole e) ∙ c.whole-number.ensures ∙ ap (λ t. capped (wholeNumber t)) (part-is s 1))
+    capped-then (literal_for a.negative) (capped-literal a.negative) (said_whole w) (whole_number (drop 1 s))
+    (sym (ap said_whole e) ∙ c.whole-number.ensures ∙ ap (λ t. capped (whole_number t)) (part-is s 1))
     ∙ named-x a.negative s b.if1.false x.if2.false
 
 returns : tie.Need-returns

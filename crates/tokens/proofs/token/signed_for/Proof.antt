@@ -2,8 +2,8 @@
 -- stopped at the cap says the same. Assumes nothing.
 use mathlib.Core.Path.{◌≡◌, sym, ap, ◌∙◌}
 use Rattle.definitions.specs.Table.{and_then}
-use Rattle.definitions.specs.Values.{wholeNumber, signedFor}
-use Rattle.tokens.specs.Said.{saidWhole}
+use Rattle.definitions.specs.Values.{whole_number, signed_for}
+use Rattle.tokens.specs.Said.{said_whole}
 use Rattle.tokens.specs.declared.token.Whole.{Whole}
 use Rattle.tokens.proofs.Says.{capped-then, capped-signed, signed-zero, signed-some}
 use borrow.Author.Rules.{rules}
@@ -12,12 +12,12 @@ use Rattle.tokens.proofs.token.signed_for.Tie as tie
 
 -- what the number says, whether it stopped at the cap or not
 answer : (c : tie.After-whole-number) (w : Whole) → c.whole-number.result ≡ w
-    → and_then (saidWhole w) (signedFor c.before.before.args.negative) ≡ and_then (wholeNumber c.before.before.args.digits.now)
-    (signedFor c.before.before.args.negative)
+    → and_then (said_whole w) (signed_for c.before.before.args.negative) ≡ and_then (whole_number c.before.before.args.digits.now)
+    (signed_for c.before.before.args.negative)
 answer c w e =
     let a = c.before.before.args in
-    capped-then (signedFor a.negative) (capped-signed a.negative) (saidWhole w) (wholeNumber a.digits.now)
-    (sym (ap saidWhole e) ∙ c.whole-number.ensures)
+    capped-then (signed_for a.negative) (capped-signed a.negative) (said_whole w) (whole_number a.digits.now)
+    (sym (ap said_whole e) ∙ c.whole-number.ensures)
 
 whole-number-requires : tie.Need-whole-number-requires
 whole-number-requires c κs = search rules

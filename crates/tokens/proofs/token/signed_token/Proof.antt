@@ -3,7 +3,7 @@
 use mathlib.Core.Path.{ap, ◌∙◌}
 use mathlib.Core.Bool.{true, false}
 use Rattle.definitions.specs.Table.{and_then}
-use Rattle.definitions.specs.Values.{wholeNumber, signedFor}
+use Rattle.definitions.specs.Values.{whole_number, signed_for}
 use Rattle.definitions.proofs.Parts.{part-is}
 use Rattle.tokens.proofs.Says.{signed-empty, signed-minus, signed-plus, signed-plain}
 use borrow.Author.Rules.{rules}
@@ -48,7 +48,7 @@ returns-2 c =
     let m = c.before.before in
     let e = m.before.before in
     let s = e.before.before.args.s.now in
-    c.signed-for.ensures ∙ ap (λ t. and_then (wholeNumber t) (signedFor true)) (part-is s 1)
+    c.signed-for.ensures ∙ ap (λ t. and_then (whole_number t) (signed_for true)) (part-is s 1)
     ∙ signed-minus s e.if1.false m.match.keys1
 
 returns-3 : tie.Need-returns-3
@@ -56,7 +56,7 @@ returns-3 c =
     let m = c.before.before in
     let e = m.before.before in
     let s = e.before.before.args.s.now in
-    c.signed-for2.ensures ∙ ap (λ t. and_then (wholeNumber t) (signedFor false)) (part-is s 1)
+    c.signed-for2.ensures ∙ ap (λ t. and_then (whole_number t) (signed_for false)) (part-is s 1)
     ∙ signed-plus s e.if1.false m.match.keys2
 
 returns-4 : tie.Need-returns-4

@@ -2,7 +2,7 @@
 -- stands at the front. Assumes nothing.
 use mathlib.Core.Path.{ap, ◌∙◌}
 use mathlib.Core.Bool.{true}
-use Rattle.definitions.specs.Values.{namedVariable}
+use Rattle.definitions.specs.Values.{named_variable}
 use Rattle.definitions.proofs.Parts.{part-is}
 use Rattle.tokens.proofs.Says.{x-empty, x-negated, x-plain}
 use borrow.Author.Rules.{rules}
@@ -35,7 +35,7 @@ returns-2 c =
     let m = c.before.before in
     let e = m.before.before in
     let s = e.before.before.args.s.now in
-    c.named-variable.ensures ∙ ap (namedVariable true) (part-is s 1) ∙ x-negated s e.if1.false m.match.keys1
+    c.named-variable.ensures ∙ ap (named_variable true) (part-is s 1) ∙ x-negated s e.if1.false m.match.keys1
 
 returns-3 : tie.Need-returns-3
 returns-3 c =

@@ -4,8 +4,8 @@ use mathlib.Core.Path.{◌≡◌, sym, ◌∙◌}
 use mathlib.Core.List.{List, []}
 use Prim.Native.Nat.{ℕ}
 use borrow.Author.Rules.{rules}
-use Rattle.definitions.specs.Values.{front, itemsFrom}
-use Rattle.items.specs.Items.{Found, soughtOf, itemBy}
+use Rattle.definitions.specs.Values.{front, items_from}
+use Rattle.items.specs.Items.{Found, sought_of, item_by}
 use Rattle.items.specs.declared.NextItem.{NextItem}
 use Rattle.items.proofs.Found.{found-end, found-line, found-token}
 use Rattle.values.proofs.Checks.{hear-nothing, hear-line, met-within, met-answer}
@@ -20,10 +20,10 @@ module _ (c : tie.After-next-item) where
   text = start.args.block.now
 
   abbrev first : Found
-  first = soughtOf (itemsFrom front 0 text)
+  first = sought_of (items_from front 0 text)
 
   -- what is met first
-  met : (r : NextItem) → c.next-item.result ≡ r → r ≡ itemBy text first
+  met : (r : NextItem) → c.next-item.result ≡ r → r ≡ item_by text first
   met r e = sym e ∙ c.next-item.ensures
 
 next-item-requires : tie.Need-next-item-requires

@@ -1,10 +1,10 @@
 -- `string::check_behind` meets its contract: what is met next behind the string. Assumes nothing.
 use mathlib.Core.Path.{◌≡◌, sym, ap, ◌∙◌}
 use borrow.Author.Rules.{rules}
-use Rattle.items.specs.Items.{Found, soughtOf, onFrom, itemBy}
+use Rattle.items.specs.Items.{Found, sought_of, on_from, item_by}
 use Rattle.items.specs.declared.NextItem.{NextItem}
 use Rattle.items.proofs.Found.{found-end, found-line, found-token}
-use Rattle.values.specs.Strings.{behindOf}
+use Rattle.values.specs.Strings.{behind_of}
 use Rattle.values.proofs.string.check_behind.Statement.{statement}
 use Rattle.values.proofs.string.check_behind.Tie as tie
 
@@ -13,16 +13,16 @@ module _ (c : tie.After-next-item) where
   start = c.before.before
 
   abbrev behind : Found
-  behind = soughtOf (onFrom start.args.block.now start.args.end)
+  behind = sought_of (on_from start.args.block.now start.args.end)
 
   -- the item that was met
-  met : (r : NextItem) → c.next-item.result ≡ r → r ≡ itemBy start.args.block.now behind
+  met : (r : NextItem) → c.next-item.result ≡ r → r ≡ item_by start.args.block.now behind
   met r e = sym e ∙ c.next-item.ensures
 
   -- the answer by what is found
   answer : (f : Found) → f ≡ behind
-      → behindOf start.args.place start.args.end f ≡ behindOf start.args.place start.args.end behind
-  answer f e = ap (behindOf start.args.place start.args.end) e
+      → behind_of start.args.place start.args.end f ≡ behind_of start.args.place start.args.end behind
+  answer f e = ap (behind_of start.args.place start.args.end) e
 
 next-item-requires : tie.Need-next-item-requires
 next-item-requires c κs = search rules

@@ -7,14 +7,14 @@ use native.Mathlib.Omega.{arith}
 use borrow.Author.Rules.{rules}
 use lib.ListN.{length, drop}
 use Rattle.definitions.specs.declared.Refusal.{Refusal}
-use Rattle.definitions.specs.Limits.{fileLimit}
+use Rattle.definitions.specs.Limits.{file_limit}
 use Rattle.definitions.specs.Text.{statement}
 use Rattle.definitions.specs.Walk.{bad, item}
 use Rattle.definitions.specs.declared.Entry.{Entry}
 use Rattle.definitions.specs.declared.Options.{Options}
 use Rattle.definitions.proofs.Parts.{part-is}
-use Rattle.statements.specs.Brief.{briefStep}
-use Rattle.statements.specs.Said.{saidStatement}
+use Rattle.statements.specs.Brief.{brief_step}
+use Rattle.statements.specs.Said.{said_statement}
 use Rattle.walker.proofs.StepAnswers.{step-long, step_past, step_end, refusal-fits, step-refused, first_fits, next_fits, step_line}
 use Rattle.walker.proofs.steps.step_at.Statement as theorem
 use Rattle.walker.proofs.steps.step_at.Tie as tie
@@ -33,14 +33,14 @@ module _ (c : tie.After-opb-data) where
   abbrev place : ℕ
   place = start.args.at
 
-  short : length text ≤ fileLimit
+  short : length text ≤ file_limit
   short = c.before.before.before.if1.false
 
   within : place ≤ length text
   within = c.before.before.if2.false
 
-  read : saidStatement c.opb-data.result ≡ briefStep (statement options (drop place text))
-  read = c.opb-data.ensures ∙ ap (λ (t : List ℕ). briefStep (statement options t)) (part-is text place)
+  read : said_statement c.opb-data.result ≡ brief_step (statement options (drop place text))
+  read = c.opb-data.ensures ∙ ap (λ (t : List ℕ). brief_step (statement options t)) (part-is text place)
 
 -- a refusal
 module _ (c : tie.After-known-told) where
@@ -50,8 +50,8 @@ module _ (c : tie.After-known-told) where
   abbrev refusal : Refusal
   refusal = c.before.refusal.given.0.0
 
-  refusal_is : bad refusal ≡ briefStep (statement (options at-bad) (drop (place at-bad) (text at-bad)))
-  refusal_is = sym (ap saidStatement c.before.refusal.given.1) ∙ read at-bad
+  refusal_is : bad refusal ≡ brief_step (statement (options at-bad) (drop (place at-bad) (text at-bad)))
+  refusal_is = sym (ap said_statement c.before.refusal.given.1) ∙ read at-bad
 
 -- a row
 module _ (c : tie.After-known-told2) where
@@ -64,8 +64,8 @@ module _ (c : tie.After-known-told2) where
   abbrev bytes : ℕ
   bytes = c.before.entry.given.0.1.0
 
-  line-is : item found bytes ≡ briefStep (statement (options here) (drop (place here) (text here)))
-  line-is = sym (ap saidStatement c.before.entry.given.1) ∙ read here
+  line-is : item found bytes ≡ brief_step (statement (options here) (drop (place here) (text here)))
+  line-is = sym (ap said_statement c.before.entry.given.1) ∙ read here
 
 returns : tie.Need-returns
 returns c = step-long _ _ _ c.if1.true
@@ -117,7 +117,7 @@ add-t19 c =
 returns-3 : tie.Need-returns-3
 returns-3 c =
     let d = c.before.before in
-    step_end (options d) (text d) (place d) (short d) (sym (ap saidStatement c.enum_told.given.1) ∙ read d)
+    step_end (options d) (text d) (place d) (short d) (sym (ap said_statement c.enum_told.given.1) ∙ read d)
 
 returns-4 : tie.Need-returns-4
 returns-4 c =
