@@ -1,4 +1,6 @@
 // Blanks and line endings at the front of a rest of the file (01, "The text"). Assumes nothing.
+#![tactic(auto)]
+
 ghost use Rattle.std.specs.Prelude.{◌≡◌};
 ghost use Rattle.definitions.specs.Bytes.{blanks, line_ending, until_ending};
 

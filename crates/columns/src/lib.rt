@@ -1,5 +1,7 @@
 // What is asked of rows in lent columns (01, "Numbers and tables"), by reader, normaliser, evaluator and writer alike:
 // how many there is room for, which terms a row of a kind has, and whether they lie in their columns. Assumes nothing.
+#![tactic(auto)]
+
 ghost use Rattle.std.specs.Prelude.{◌≡◌, ◌+◌, min, leb, length};
 ghost use Rattle.columns.specs.Kinds.{terms_of_kind, first_of_kind};
 

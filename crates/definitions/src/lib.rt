@@ -1,6 +1,7 @@
 // What a reader of this project must believe stands in specs/, as definitions on lists of bytes and whole numbers;
 // proofs/ has the theorems and laws that follow from them. Here are only the types that definitions and code share, so
 // that an option, a class or an operator is one thing in both. Assumes nothing.
+#![tactic(auto)]
 
 // The limits (01, "Numbers and tables"), as specs/Limits.antt has them.
 pub const FILE_LIMIT: usize = 1_073_741_823;

@@ -1,4 +1,6 @@
 // Whether a sum stays in 64 signed bits (01, "Numbers and tables"). Assumes nothing.
+#![tactic(auto)]
+
 ghost use Rattle.std.specs.Prelude.{◌≡◌, ◌+ℤ◌};
 ghost use Rattle.definitions.specs.Limits.{in_i64};
 

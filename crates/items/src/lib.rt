@@ -1,4 +1,6 @@
 // What is met next in a block of value lines (02, A1): a line without `v`, a token, or the end. Assumes nothing.
+#![tactic(auto)]
+
 ghost use Rattle.std.specs.Prelude.{◌≡◌, length};
 ghost use Rattle.definitions.specs.Values.{is_white, is_solid, front_of};
 ghost use Rattle.items.specs.Items.{found_from, said_sought, item_by};

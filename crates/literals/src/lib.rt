@@ -1,6 +1,8 @@
 // File numbers, variables and literals, as in the Rust's types.rs. "File number, index and code may not be passed one
 // for another" (01): each is a type of its own, and the functions here are the only ways between them. Where one has no
 // counterpart the answer is refusal 5. Assumes nothing.
+#![tactic(auto)]
+
 ghost use Rattle.std.specs.Prelude.{◌≡◌, true, false, not};
 ghost use Rattle.definitions.specs.Literal.{index, is_index, index_of, code_for, negated, opposite, file_number};
 ghost use Rattle.literals.specs.Said.{said_file_number, said_var, said_lit};

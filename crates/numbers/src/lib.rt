@@ -1,4 +1,6 @@
 // Integers read: a number, or the digits alone, at the front of a part of a file, and a number's size. Assumes nothing.
+#![tactic(auto)]
+
 ghost use Rattle.std.specs.Prelude.{◌≡◌, true, ◌+◌, ◌<◌, ◌^◌, length, nat_abs};
 ghost use Rattle.definitions.specs.Limits.{in_i64};
 ghost use Rattle.definitions.specs.Number.{leading, signed, ended, number};

@@ -1,6 +1,8 @@
 // The two parts of a plain term, weight and literal, each read by eight bytes at once from the rest of the file where
 // it begins, with the space behind it. specs/PartForms.antt says exactly what a part is; a text of any other form, or
 // with fewer than eight bytes left, is left to others. Assumes nothing.
+#![tactic(auto)]
+
 mod parts;
 mod word;
 

@@ -1,4 +1,6 @@
 // The class of a byte, and what it begins where a statement is to begin (01, "The text"). Assumes nothing.
+#![tactic(auto)]
+
 ghost use Rattle.std.specs.Prelude.{◌≡◌};
 ghost use Rattle.definitions.specs.Bytes.{class_of, begins};
 

@@ -1,5 +1,7 @@
 // What a call of the library for C over a table answers (include/opb.h): a struct of numbers, by value. Assumes
 // nothing.
+#![tactic(auto)]
+
 ghost use Rattle.std.specs.Prelude.{◌≡◌};
 ghost use Rattle.definitions.specs.Answers.{said_counted};
 ghost use Rattle.table_answers.specs.ByValue.{table_answer};

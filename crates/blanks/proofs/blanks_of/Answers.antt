@@ -1,0 +1,22 @@
+-- `blanks::blanks_of` meets its contract. The loop's invariant: i blanks are passed; the measure is what is left of
+-- the length. Assumes nothing.
+use native.Mathlib.Omega.{arith}
+use Prim.Native.Nat.{◌-◌}
+use mathlib.Core.Logic.{inl, inr, ⊎_elim}
+use lib.ListN.{length}
+use Rattle.blanks.proofs.Blanks.{Passed, passed_none, passed-all, passed-end, passed-more}
+use Rattle.blanks.proofs.blanks_of.Goals as goal
+
+pub loop-i-init : goal.loop-i-init
+loop-i-init c = passed_none _
+
+pub returns-then-b-ne9 : goal.returns-then-b-ne9
+returns-then-b-ne9 c = passed-end _ _ c.loop-i.invariant (omega arith) c.if-b-ne32.true c.if-b-ne9.true
+
+pub loop-i-preserved : goal.loop-i-preserved
+loop-i-preserved c =
+    passed-more _ _ c.loop-i.invariant (omega arith)
+    (⊎_elim (λ w. inr (omega arith)) (λ w. inl (omega arith)) c.if-b-ne32.branch)
+
+pub returns : goal.returns
+returns c = passed-all _ _ c.loop-i.invariant (omega arith)

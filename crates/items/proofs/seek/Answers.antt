@@ -1,0 +1,37 @@
+-- `items::seek` meets its contract. The loop's invariant: what is sought from the start on is what is sought from `at`
+-- on; the measure is what is left of the length. Assumes nothing.
+use Prim.Native.Nat.{◌-◌, ◌<◌}
+use mathlib.Core.Path.{sym, ◌∙◌}
+use mathlib.Core.Logic.{⊎_elim}
+use native.Mathlib.Omega.{arith}
+use borrow.Author.Rules.{rules}
+use borrow.Author.Tests.{not-true, not-false}
+use lib.ListN.{length}
+use Rattle.items.proofs.Spots.{Seeking, seeking-none, seeking-end, seeking-v, seeking-lf, seeking-white, seeking-line}
+use Rattle.items.proofs.Spots.{seeking-token}
+use Rattle.items.proofs.seek.Goals as goal
+
+pub loop-at-init : goal.loop-at-init
+loop-at-init c = seeking-none _ _ _
+
+pub returns-then-b-ne118 : goal.returns-then-b-ne118
+returns-then-b-ne118 c = seeking-line _ _ _ _ _ c.loop-at.invariant (omega arith) c.if-opens.true c.if-b-ne118.true
+
+pub returns-then-not-is_white : goal.returns-then-not-is_white
+returns-then-not-is_white c =
+    seeking-token _ _ _ _ _ c.loop-at.invariant (omega arith) c.if-opens.false c.if-b-eq10.false
+    (sym c.is_white.ensures ∙ not-true _ c.if-not-is_white.true)
+
+pub loop-at-preserved : goal.loop-at-preserved
+loop-at-preserved c =
+    let h : c.loop-at.at < length c.args.block.now = omega arith in
+    ⊎_elim
+    (λ w. rw w.2 (seeking-v _ _ _ _ _ c.loop-at.invariant h w.0.taken w.1.left))
+    (⊎_elim
+    (λ w. rw w.2 (seeking-lf _ _ _ _ _ c.loop-at.invariant h w.0.left w.1.taken))
+    (λ w. rw (w.4 ∙ w.0.left)
+    (seeking-white _ _ _ _ _ c.loop-at.invariant h w.0.left w.1.left (sym w.2.ensures ∙ not-false _ w.3.left))))
+    c.if-opens.branch
+
+pub returns : goal.returns
+returns c = seeking-end _ _ _ _ _ c.loop-at.invariant (omega arith)

@@ -1,0 +1,49 @@
+-- `plain_literal` meets its contract: each of its tests is one of `literal_at`'s (proofs/PartAnswers.antt).
+use mathlib.Core.List.{List}
+use mathlib.Core.Path.{subst}
+use Prim.Native.Nat.{ℕ}
+use native.Mathlib.Omega.{arith}
+use borrow.Author.Rules.{rules}
+use Rattle.plain_parts.specs.InWord.{Begins, LiteralSays, LiteralIs}
+use Rattle.plain_parts.proofs.PartAnswers.{literal-short, literal-none, literal-unspaced, literal-zero, literal-found}
+use Rattle.plain_parts.proofs.plain_literal.Goals as goal
+use Rattle.plain_parts.proofs.plain_literal.Goals.{After-literal_in, In-Lanes}
+
+module _ (c : After-literal_in) where
+  abbrev text : List ℕ
+  text = c.args.s.now
+
+  begins : Begins text c.first_word.result
+  begins = record { long = omega (arith, c.if-s-lt8.false); bytes = c.first_word.ensures }
+
+-- a literal has been found in the word
+module _ (c : In-Lanes) where
+  abbrev read : After-literal_in
+  read = (goal.at.In-Lanes c).After-literal_in
+
+  lit : LiteralIs (text read) c.in-Lanes.marked c.in-Lanes.digits c.in-Lanes.taken
+  lit = subst (LiteralSays (text read)) c.in-Lanes.is (read.literal_in.ensures (text read) (begins read))
+
+pub returns-then-s-lt8 : goal.returns-then-s-lt8
+returns-then-s-lt8 c = literal-short c.args.s.now c.if-s-lt8.true
+
+pub returns-in_default : goal.returns-in_default
+returns-in_default c =
+    let s = text (goal.at.returns-in_default c).After-literal_in in
+    literal-none s (begins (goal.at.returns-in_default c).After-literal_in).long (subst (LiteralSays s) c.in_default.is (c.literal_in.ensures s (begins (goal.at.returns-in_default c).After-literal_in)))
+
+pub bounds-s-taken : goal.bounds-s-taken
+bounds-s-taken c = omega (arith, (lit (goal.at.bounds-s-taken c).In-Lanes).part.short, (begins (read (goal.at.bounds-s-taken c).In-Lanes)).long)
+
+pub returns-then-s-taken-ne32 : goal.returns-then-s-taken-ne32
+returns-then-s-taken-ne32 c =
+    literal-unspaced (text (read (goal.at.returns-then-s-taken-ne32 c).In-Lanes)) (begins (read (goal.at.returns-then-s-taken-ne32 c).In-Lanes)).long (lit (goal.at.returns-then-s-taken-ne32 c).In-Lanes) c.if-s-taken-ne32.true
+
+pub returns-then-digits-eq0 : goal.returns-then-digits-eq0
+returns-then-digits-eq0 c =
+    literal-zero (text (read (goal.at.returns-then-digits-eq0 c).In-Lanes)) (begins (read (goal.at.returns-then-digits-eq0 c).In-Lanes)).long (lit (goal.at.returns-then-digits-eq0 c).In-Lanes) c.if-s-taken-ne32.false c.if-digits-eq0.true
+
+pub returns : goal.returns
+returns c =
+    literal-found (text (read (goal.at.returns c).In-Lanes)) (begins (read (goal.at.returns c).In-Lanes)).long (lit (goal.at.returns c).In-Lanes) c.if-s-taken-ne32.false (omega (arith, c.if-digits-eq0.false))
+    (omega (arith, c.in-Lanes.known_told-1-own.given)) c.lane_value.ensures

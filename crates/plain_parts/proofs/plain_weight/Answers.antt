@@ -1,0 +1,44 @@
+-- `plain_weight` meets its contract: each of its tests is one of `weight_at`'s (proofs/PartAnswers.antt).
+use mathlib.Core.List.{List}
+use mathlib.Core.Path.{subst}
+use Prim.Native.Nat.{ℕ}
+use native.Mathlib.Omega.{arith}
+use borrow.Author.Rules.{rules}
+use Rattle.plain_parts.specs.InWord.{Begins, WeightSays, WeightIs}
+use Rattle.plain_parts.proofs.PartAnswers.{weight-short, weight-none, weight-unspaced, weight-found}
+use Rattle.plain_parts.proofs.plain_weight.Goals as goal
+use Rattle.plain_parts.proofs.plain_weight.Goals.{After-weight_in, In-Lanes}
+
+module _ (c : After-weight_in) where
+  abbrev text : List ℕ
+  text = c.args.s.now
+
+  begins : Begins text c.first_word.result
+  begins = record { long = omega (arith, c.if-s-lt8.false); bytes = c.first_word.ensures }
+
+-- a weight has been found in the word
+module _ (c : In-Lanes) where
+  abbrev read : After-weight_in
+  read = (goal.at.In-Lanes c).After-weight_in
+
+  weight : WeightIs (text read) c.in-Lanes.marked c.in-Lanes.digits c.in-Lanes.taken
+  weight = subst (WeightSays (text read)) c.in-Lanes.is (read.weight_in.ensures (text read) (begins read))
+
+pub returns-then-s-lt8 : goal.returns-then-s-lt8
+returns-then-s-lt8 c = weight-short c.args.s.now c.if-s-lt8.true
+
+pub returns-in_default : goal.returns-in_default
+returns-in_default c =
+    let s = text (goal.at.returns-in_default c).After-weight_in in
+    weight-none s (begins (goal.at.returns-in_default c).After-weight_in).long (subst (WeightSays s) c.in_default.is (c.weight_in.ensures s (begins (goal.at.returns-in_default c).After-weight_in)))
+
+pub bounds-s-taken : goal.bounds-s-taken
+bounds-s-taken c = omega (arith, (weight (goal.at.bounds-s-taken c).In-Lanes).part.short, (begins (read (goal.at.bounds-s-taken c).In-Lanes)).long)
+
+pub returns-then-s-taken-ne32 : goal.returns-then-s-taken-ne32
+returns-then-s-taken-ne32 c =
+    weight-unspaced (text (read (goal.at.returns-then-s-taken-ne32 c).In-Lanes)) (begins (read (goal.at.returns-then-s-taken-ne32 c).In-Lanes)).long (weight (goal.at.returns-then-s-taken-ne32 c).In-Lanes) c.if-s-taken-ne32.true
+
+pub returns : goal.returns
+returns c =
+    weight-found (text (read (goal.at.returns c).In-Lanes)) (begins (read (goal.at.returns c).In-Lanes)).long (weight (goal.at.returns c).In-Lanes) c.if-s-taken-ne32.false c.lane_value.ensures
