@@ -16,7 +16,7 @@ use Rattle.definitions.specs.Bytes.{blanks, minus, plus, space}
 use Rattle.definitions.specs.Number.{leading, value_on, value, number}
 use Rattle.definitions.specs.Literal.{index}
 use Rattle.definitions.specs.Row.{Term, term, sizes}
-use Rattle.definitions.specs.Text.{gap, gap1, weighted, begins_term, sum}
+use Rattle.definitions.specs.Text.{gap1, weighted, begins_term, sum}
 use Rattle.definitions.specs.Meaning.{is_true, sum_of}
 use Rattle.document.specs.Document as D
 use Rattle.document.specs.DocumentRead.{from_one, weights_of, IndexWithin, by_index}

@@ -82,9 +82,9 @@ module _ (n m : ℕ) (cs : List (List ℕ)) (gs : List D.Objective) (xs : List D
     constraints = unsigned-good m;
     counted = unsigned-worth m ∙ sym k;
     comments = comments-good cs w;
-    objective = rw (unsigned-worth n) g;
+    objective = subst (λ (k : ℕ). AllOf (λ g. AllOf (D.GoodTerm k) (D.terms_of g.sum)) gs) (sym (unsigned-worth n)) g;
     single = l;
-    body = rw (unsigned-worth n) x;
+    body = subst (λ (k : ℕ). AllOf (D.GoodStatement k) xs) (sym (unsigned-worth n)) x;
   }
 
 -- ---- the rows of items in the document's order

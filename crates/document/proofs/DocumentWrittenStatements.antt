@@ -11,7 +11,7 @@ use lib.IntN.{ℤ, ◌+ℤ◌}
 use Rattle.definitions.specs.Lists.{joined, AllOf}
 use Rattle.definitions.specs.Bytes.{min_text, space}
 use Rattle.definitions.specs.Number.{integer_text}
-use Rattle.definitions.specs.Literal.{index_of, plain}
+use Rattle.definitions.specs.Literal.{index_of}
 use Rattle.definitions.specs.Row.{Term, Row, row_of}
 use Rattle.definitions.specs.declared.Kind.{Kind}
 use Rattle.definitions.specs.declared.Kind.TheVariants.{AtLeast as at_least, AtMost as at_most, Equal as equal, Objective as objective}
