@@ -2,6 +2,8 @@
 // space; a literal of up to seven, `x` or `~x` and digits; one space, and no blank behind it. plain_parts reads weight
 // and literal with their spaces. specs/Plain.antt says exactly which terms are plain; one of any other form is left to
 // others. Assumes nothing.
+#![tactic(auto)]
+
 ghost use Rattle.std.specs.Prelude.{◌≡◌};
 ghost use Rattle.plain.specs.Plain.{plain_at, said_plain};
 

@@ -1,0 +1,109 @@
+-- `plain_term` meets its contract: each of its tests is one of `plain_at`'s (proofs/PlainAnswers.antt).
+use Prim.Native.Nat.{ℕ, ◌+◌, ◌≤◌}
+use mathlib.Core.List.{List}
+use mathlib.Core.Path.{◌≡◌, refl, sym, ap, ◌∙◌}
+use native.Mathlib.Omega.{arith}
+use lib.ListN.{length}
+use Rattle.plain_parts.specs.PartForms.{said_weight, said_literal, literal_at}
+use Rattle.plain_parts.proofs.PartAnswers.{WeightHere, weight-here, LiteralHere, literal-here}
+use Rattle.plain.specs.Plain.{behind}
+use Rattle.plain.proofs.PlainAnswers.{too_short, first_above, no-weight, gap-short, literal-part, no-literal, long-short, two-blanks}
+use Rattle.plain.proofs.PlainAnswers.{plain-found}
+use Rattle.plain.proofs.plain_term.Goals as goal
+use Rattle.plain.proofs.plain_term.Goals.{After-plain_literal, Else-options-gt1, In-Literal, In-Weight}
+
+-- the text is long enough, and the first index is 0 or 1
+module _ (c : Else-options-gt1) where
+  abbrev text : List ℕ
+  text = c.args.s.now
+
+  long : 17 ≤ length text
+  long = omega (arith, c.if-s-lt17.false)
+
+  first : c.args.options.first ≤ 1
+  first = omega (arith, c.if-options-gt1.false)
+
+-- the weight has been read
+module _ (c : In-Weight) where
+  abbrev fits : Else-options-gt1
+  fits = (goal.at.In-Weight c).Else-options-gt1
+
+  abbrev gap : ℕ
+  gap = c.in-Weight.gap
+
+  weight : WeightHere (text fits) c.in-Weight.negative c.in-Weight.size gap
+  weight = weight-here (text fits) _ _ _ (ap said_weight (sym c.in-Weight.is) ∙ c.plain_weight.ensures)
+
+  room : gap + 1 + 8 ≤ length (text fits)
+  room = omega (arith, gap-short (text fits) weight, long fits)
+
+-- and the literal
+module _ (c : After-plain_literal) where
+  abbrev read : In-Weight
+  read = (goal.at.After-plain_literal c).In-Weight
+
+  said : said_literal c.plain_literal.result ≡ literal_at (behind (text (fits read)))
+  said = c.plain_literal.ensures ∙ ap literal_at (literal-part (text (fits read)) (weight read))
+
+module _ (c : In-Literal) where
+  abbrev lits : After-plain_literal
+  lits = (goal.at.In-Literal c).After-plain_literal
+
+  abbrev taken : ℕ
+  taken = c.in-Literal.long
+
+  lit : LiteralHere (behind (text (fits (read lits)))) c.in-Literal.negated c.in-Literal.number taken
+  lit = literal-here _ _ _ _ (ap said_literal (sym c.in-Literal.is) ∙ said lits)
+
+  ends : gap (read lits) + taken + 2 ≤ 16
+  ends =
+      let w = read lits in
+      let f = fits w in
+      omega (arith, gap-short (text f) (weight w), long-short (text f) (weight w) _ (long f) (first f) lit)
+
+pub returns-then-s-lt17 : goal.returns-then-s-lt17
+returns-then-s-lt17 c = too_short _ c.args.s.now c.if-s-lt17.true
+
+pub returns-then-options-gt1 : goal.returns-then-options-gt1
+returns-then-options-gt1 c = first_above _ c.args.s.now (omega (arith, c.if-s-lt17.false)) c.if-options-gt1.true
+
+pub returns-in_default : goal.returns-in_default
+returns-in_default c =
+    no-weight _ (text (goal.at.returns-in_default c).Else-options-gt1) (long (goal.at.returns-in_default c).Else-options-gt1) (first (goal.at.returns-in_default c).Else-options-gt1) (ap said_weight (sym c.in_default.is) ∙ c.plain_weight.ensures)
+
+pub overflow_add-gap : goal.overflow_add-gap
+overflow_add-gap c = omega (arith, gap-short (text (fits (goal.at.overflow_add-gap c).In-Weight)) (weight (goal.at.overflow_add-gap c).In-Weight))
+
+pub slice_bounds-plain_literal-count : goal.slice_bounds-plain_literal-count
+slice_bounds-plain_literal-count c = omega (arith, room (goal.at.slice_bounds-plain_literal-count c).In-Weight)
+
+pub slice_bounds-plain_literal-start : goal.slice_bounds-plain_literal-start
+slice_bounds-plain_literal-start c = omega (arith, room (goal.at.slice_bounds-plain_literal-start c).In-Weight)
+
+pub returns-in_default-plain_literal : goal.returns-in_default-plain_literal
+returns-in_default-plain_literal c =
+    let w = read (goal.at.returns-in_default-plain_literal c).After-plain_literal in
+    let f = fits w in
+    no-literal (text f) (weight w) _ (long f) (first f) (ap said_literal (sym c.in_default-plain_literal.is) ∙ said (goal.at.returns-in_default-plain_literal c).After-plain_literal)
+
+pub overflow_add-taken : goal.overflow_add-taken
+overflow_add-taken c = omega (arith, ends (goal.at.overflow_add-taken c).In-Literal)
+
+pub overflow_add-taken-2 : goal.overflow_add-taken-2
+overflow_add-taken-2 c = omega (arith, ends (goal.at.overflow_add-taken-2 c).In-Literal)
+
+pub bounds-s-taken : goal.bounds-s-taken
+bounds-s-taken c =
+    omega (arith, ends (goal.at.bounds-s-taken c).In-Literal, long (fits (read (lits (goal.at.bounds-s-taken c).In-Literal))))
+
+pub returns-then-s-taken-le32 : goal.returns-then-s-taken-le32
+returns-then-s-taken-le32 c =
+    let w = read (lits (goal.at.returns-then-s-taken-le32 c).In-Literal) in
+    let f = fits w in
+    two-blanks (text f) (weight w) _ (long f) (first f) (lit (goal.at.returns-then-s-taken-le32 c).In-Literal) c.if-s-taken-le32.true
+
+pub returns : goal.returns
+returns c =
+    let w = read (lits (goal.at.returns c).In-Literal) in
+    let f = fits w in
+    plain-found (text f) (weight w) _ (long f) (first f) (lit (goal.at.returns c).In-Literal) _ refl refl refl refl (omega (arith, c.if-s-taken-le32.false))
