@@ -9,7 +9,7 @@ ghost use Rattle.held.specs.HeldWalker.{walker_at};
 use definitions::Options;
 
 // "a reader that holds the file's bytes": the file, how it is read, and the offset of the next statement.
-#[derive(Drop)]
+#[derive(Clone, Copy)]
 pub struct Walker<'a> {
     pub file: &'a [u8],
     pub options: Options,
