@@ -1,4 +1,6 @@
 // What the number of a row in the column of kinds says (01, "Numbers and tables"). Assumes nothing.
+#![tactic(auto)]
+
 ghost use Rattle.std.specs.Prelude.{◌≡◌};
 ghost use Rattle.columns.specs.Kinds.{read_kind};
 

@@ -1,5 +1,7 @@
 // What is answered for a row whose sum is known (01, "Normalising and evaluating"): whether a constraint holds, or an
 // objective's value. Assumes nothing.
+#![tactic(auto)]
+
 ghost use Rattle.std.specs.Prelude.{◌≡◌, ◌+ℤ◌};
 ghost use Rattle.definitions.specs.Evaluate.{on_place};
 ghost use Rattle.verdicts.specs.Said.{said_evaluated};
