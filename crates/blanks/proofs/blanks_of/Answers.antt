@@ -6,6 +6,7 @@ use mathlib.Core.Logic.{inl, inr, ⊎_elim}
 use lib.ListN.{length}
 use Rattle.blanks.proofs.Blanks.{Passed, passed_none, passed-all, passed-end, passed-more}
 use Rattle.blanks.proofs.blanks_of.Goals as goal
+use Rattle.blanks.proofs.blanks_of.Goals.{then-b-ne32+else-b-ne9, else-b-ne32}
 
 pub loop-i-init : goal.loop-i-init
 loop-i-init c = passed_none _
@@ -16,7 +17,7 @@ returns-then-b-ne9 c = passed-end _ _ c.loop-i.invariant (omega arith) c.if-b-ne
 pub loop-i-preserved : goal.loop-i-preserved
 loop-i-preserved c =
     passed-more _ _ c.loop-i.invariant (omega arith)
-    (⊎_elim (λ w. inr (omega arith)) (λ w. inl (omega arith)) c.if-b-ne32.branch)
+    (elim c.if-b-ne32.branch [ then-b-ne32+else-b-ne9 w ↦ inr (omega arith) | else-b-ne32 w ↦ inl (omega arith) ])
 
 pub returns : goal.returns
 returns c = passed-all _ _ c.loop-i.invariant (omega arith)

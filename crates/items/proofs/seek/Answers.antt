@@ -10,6 +10,7 @@ use lib.ListN.{length}
 use Rattle.items.proofs.Spots.{Seeking, seeking-none, seeking-end, seeking-v, seeking-lf, seeking-white, seeking-line}
 use Rattle.items.proofs.Spots.{seeking-token}
 use Rattle.items.proofs.seek.Goals as goal
+use Rattle.items.proofs.seek.Goals.{then-opens+else-b-ne118, else-opens+then-b-eq10, else-opens+else-b-eq10+else-not-is_white}
 
 pub loop-at-init : goal.loop-at-init
 loop-at-init c = seeking-none _ _ _
@@ -20,18 +21,19 @@ returns-then-b-ne118 c = seeking-line _ _ _ _ _ c.loop-at.invariant (omega arith
 pub returns-then-not-is_white : goal.returns-then-not-is_white
 returns-then-not-is_white c =
     seeking-token _ _ _ _ _ c.loop-at.invariant (omega arith) c.if-opens.false c.if-b-eq10.false
-    (sym c.is_white.ensures ∙ not-true _ c.if-not-is_white.true)
+    (sym c.is_white.ensures ∙ c.if-not-is_white.true)
 
 pub loop-at-preserved : goal.loop-at-preserved
 loop-at-preserved c =
     let h : c.loop-at.at < length c.args.block.now = omega arith in
-    ⊎_elim
-    (λ w. rw w.2 (seeking-v _ _ _ _ _ c.loop-at.invariant h w.0.taken w.1.left))
-    (⊎_elim
-    (λ w. rw w.2 (seeking-lf _ _ _ _ _ c.loop-at.invariant h w.0.left w.1.taken))
-    (λ w. rw (w.4 ∙ w.0.left)
-    (seeking-white _ _ _ _ _ c.loop-at.invariant h w.0.left w.1.left (sym w.2.ensures ∙ not-false _ w.3.left))))
-    c.if-opens.branch
+    elim c.if-opens.branch [
+      | then-opens+else-b-ne118 w ↦ rw w.opens-is (seeking-v _ _ _ _ _ c.loop-at.invariant h w.if-opens.true w.if-b-ne118.false)
+      | else-opens+then-b-eq10 w ↦ rw w.opens-is (seeking-lf _ _ _ _ _ c.loop-at.invariant h w.if-opens.false w.if-b-eq10.true)
+      | else-opens+else-b-eq10+else-not-is_white w ↦
+          rw (w.opens-is ∙ w.if-opens.false)
+          (seeking-white _ _ _ _ _ c.loop-at.invariant h w.if-opens.false w.if-b-eq10.false
+          (sym w.is_white.ensures ∙ w.if-not-is_white.false))
+    ]
 
 pub returns : goal.returns
 returns c = seeking-end _ _ _ _ _ c.loop-at.invariant (omega arith)
