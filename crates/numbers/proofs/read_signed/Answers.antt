@@ -40,5 +40,5 @@ overflow_add-result c =
 pub returns : goal.returns
 returns c =
     let a = c.args in
-    rw (to_z-of_z (sfits_of c.type_inv.z), c.signed_of-z.ensures)
+    rw (to_z-of_z (sfits_of c.signed_of-z.type_inv), c.signed_of-z.ensures)
     (run-got a.negative a.k a.s.now _ c.read_run-r.ensures c.if-count-eq0.false (small (goal.at.returns c).Else-size-most))

@@ -1,7 +1,7 @@
 -- `symbols::class_of` meets its contract: an arm of keys by computing the class of each, the others by where the byte
 -- stands to the ranges of digits and operators. Assumes nothing.
 use mathlib.Core.Path.{◌≡◌, sym, ◌∙◌}
-use mathlib.Core.Logic.{inl, inr, ⊎_elim}
+use mathlib.Core.Logic.{◌⊎◌, inl, inr}
 use mathlib.Core.Bool.{cond}
 use native.Mathlib.Omega.{arith}
 use Prim.Native.Nat.{ℕ, ◌≤◌, ◌<◌}
@@ -9,7 +9,6 @@ use borrow.Author.Tests.{le-leb, lt-leb, ne_eqb}
 use Rattle.definitions.specs.Bytes.{tab, lf, cr, space, star, plus, minus, semicolon, letter_m, letter_x, tilde, class_of, is_digit, is_operator}
 use Rattle.definitions.specs.declared.Class.TheVariants.{Digit, Operator, Other}
 use Rattle.symbols.proofs.class_of.Goals as goal
-use Rattle.symbols.proofs.class_of.Goals.{In_default-1}
 
 pub returns-in-43 : goal.returns-in-43
 unfolding class_of
@@ -47,13 +46,16 @@ pub returns-in-109 : goal.returns-in-109
 unfolding class_of
 returns-in-109 c = rw c.in-109.is
 
--- a byte that is none of the keys: what the ranges say
-ranged : (c : In_default-1)
-    → class_of c.args.b ≡ cond (is_digit c.args.b) Digit (cond (is_operator c.args.b) Operator Other)
+-- a byte that is none of the keys
+abbrev NoKey : ℕ → Type 0
+NoKey b =
+    ((((((((Unit {0} × (((b ≡ 43) ⊎ (b ≡ 45)) → ⊥)) × (((b ≡ 9) ⊎ (b ≡ 32)) → ⊥)) × (b ≡ 13 → ⊥)) × (b ≡ 10 → ⊥)) × (b ≡ 59 → ⊥))
+    × (b ≡ 42 → ⊥)) × (b ≡ 126 → ⊥)) × (b ≡ 120 → ⊥)) × (b ≡ 109 → ⊥)
+
+-- what the ranges say of it
+ranged : (b : ℕ) → NoKey b → class_of b ≡ cond (is_digit b) Digit (cond (is_operator b) Operator Other)
 unfolding class_of
-ranged c =
-    let b = c.args.b in
-    let r = c.in_default-1.rest in
+ranged b r =
     let signs = r.0.0.0.0.0.0.0.0.1 in
     let blanks = r.0.0.0.0.0.0.0.1 in
     rw (
@@ -74,40 +76,37 @@ next : (n : ℕ) → 59 ≤ n → (n ≡ 59 → ⊥) → 60 ≤ n
 next n h e = omega arith
 
 -- the same, by where the byte stands to the ranges
-module _ (c : In_default-1) where
-  abbrev byte : ℕ
-  byte = c.args.b
-
+module _ (byte : ℕ) (key : NoKey byte) where
   in-digits : 48 ≤ byte → byte < 58 → Digit ≡ class_of byte
-  in-digits h g = sym (ranged c ∙ rw (le-leb 48 byte h, le-leb byte 57 (omega arith)))
+  in-digits h g = sym (ranged byte key ∙ rw (le-leb 48 byte h, le-leb byte 57 (omega arith)))
 
   in-operators : 59 ≤ byte → byte < 63 → Operator ≡ class_of byte
   in-operators h g =
-      let k : 60 ≤ byte = next byte h c.in_default-1.rest.0.0.0.0.1 in
-      sym (ranged c ∙ rw (le-leb 48 byte (omega arith), lt-leb byte 57 (omega arith), le-leb 60 byte k, le-leb byte 62 (omega arith)))
+      let k : 60 ≤ byte = next byte h key.0.0.0.0.1 in
+      sym (ranged byte key ∙ rw (le-leb 48 byte (omega arith), lt-leb byte 57 (omega arith), le-leb 60 byte k, le-leb byte 62 (omega arith)))
 
   below-digits : byte < 48 → Other ≡ class_of byte
-  below-digits h = sym (ranged c ∙ rw (lt-leb 48 byte h, lt-leb 60 byte (omega arith)))
+  below-digits h = sym (ranged byte key ∙ rw (lt-leb 48 byte h, lt-leb 60 byte (omega arith)))
 
   between : 58 ≤ byte → byte < 59 → Other ≡ class_of byte
-  between h g = sym (ranged c ∙ rw (le-leb 48 byte (omega arith), lt-leb byte 57 (omega arith), lt-leb 60 byte (omega arith)))
+  between h g = sym (ranged byte key ∙ rw (le-leb 48 byte (omega arith), lt-leb byte 57 (omega arith), lt-leb 60 byte (omega arith)))
 
   above-operators : 63 ≤ byte → Other ≡ class_of byte
   above-operators h =
-      sym (ranged c
+      sym (ranged byte key
       ∙ rw (le-leb 48 byte (omega arith), lt-leb byte 57 (omega arith), le-leb 60 byte (omega arith), lt-leb byte 62 (omega arith)))
 
 pub returns-in-48-to-57 : goal.returns-in-48-to-57
-returns-in-48-to-57 c = in-digits (goal.at.returns-in-48-to-57 c).In_default-1 c.in-48-to-57.if-b-lt48-own.false c.in-48-to-57.if-b-lt58-own.true
+returns-in-48-to-57 c = in-digits c.args.b c.in-48-to-57.in_default-own.rest c.in-48-to-57.if-b-lt48-own.false c.in-48-to-57.if-b-lt58-own.true
 
 pub returns-in-60 : goal.returns-in-60
-returns-in-60 c = in-operators (goal.at.returns-in-60 c).In_default-1 c.in-60.if-b-lt59-own.false c.in-60.if-b-lt63-own.true
+returns-in-60 c = in-operators c.args.b c.in-60.in_default-own.rest c.in-60.if-b-lt59-own.false c.in-60.if-b-lt63-own.true
 
 pub returns-in_default : goal.returns-in_default
-returns-in_default c = below-digits (goal.at.returns-in_default c).In_default-1 c.in_default.if-b-lt48-own.true
+returns-in_default c = below-digits c.args.b c.in_default.in_default-own.rest c.in_default.if-b-lt48-own.true
 
 pub returns-in_default-2 : goal.returns-in_default-2
-returns-in_default-2 c = between (goal.at.returns-in_default-2 c).In_default-1 c.in_default.if-b-lt58-own.false c.in_default.if-b-lt59-own.true
+returns-in_default-2 c = between c.args.b c.in_default.in_default-own.rest c.in_default.if-b-lt58-own.false c.in_default.if-b-lt59-own.true
 
 pub returns-in_default-3 : goal.returns-in_default-3
-returns-in_default-3 c = above-operators (goal.at.returns-in_default-3 c).In_default-1 c.in_default.if-b-lt63-own.false
+returns-in_default-3 c = above-operators c.args.b c.in_default.in_default-own.rest c.in_default.if-b-lt63-own.false
