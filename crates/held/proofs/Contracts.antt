@@ -1,7 +1,6 @@
 -- What the contracts of the functions over a walker state, read off the clauses that the prover makes of the source: it
--- is written nowhere a second time. Of a function over plain slices
--- and numbers the prover's own `Reads` has it; of one over a struct that holds a slice there is none, and `States` has
--- it, with the equation that the clause is that fact and no other.
+-- is written nowhere a second time. The prover's own `Reads` has the fact; `States` has it with the equation that the
+-- clause is that fact and no other.
 use mathlib.Core.Path.{◌≡◌, refl}
 use contract.Monad.{fact}
 use borrow.Fn.World.{World, Pr}

@@ -1,3 +1,2 @@
 pub mod Contracts
 pub mod OneAnswer
-pub mod Holding

@@ -1,6 +1,5 @@
 // "struct with the file slice and offset; thin stepping functions over the covered statement reader" (01): the struct,
-// made, moved and asked where it stands. Its steps are in held_steps and held_fills. A function over a struct that
-// holds a slice is proved by a walk of its own; whoever calls `walker::step_at` needs none. Assumes nothing.
+// made, moved and asked where it stands. Its steps are in held_steps and held_fills. Assumes nothing.
 #![tactic(auto)]
 
 ghost use Rattle.std.specs.Prelude.{◌≡◌};
