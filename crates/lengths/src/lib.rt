@@ -1,4 +1,6 @@
 // How long a printed number is, where its digits stand, and lengths added up as needed numbers. Assumes nothing.
+#![tactic(auto)]
+
 ghost use Rattle.std.specs.Prelude.{◌≡◌, ◌+◌, length};
 ghost use Rattle.definitions.specs.Number.{decimal, integer_text};
 ghost use Rattle.definitions.specs.Refusal.{needed};
