@@ -1,5 +1,7 @@
 // The beginnings of a statement that are a word: `min:` of an objective, and the whole of a comment (01, "The text").
 // specs/Said.antt says what each answer is in 01's numbers and values. Assumes nothing.
+#![tactic(auto)]
+
 ghost use Rattle.std.specs.Prelude.{◌≡◌};
 ghost use Rattle.definitions.specs.Text.{min_blanks, remark};
 ghost use Rattle.beginnings.specs.Said.{said_min, said_comment};
