@@ -1,5 +1,7 @@
 // The relational operators (01, "The text"): one read at the front of a text, and what it makes of a row's kind and
 // bound. Each answers an enum; specs/Said.antt says what each case is in 01's numbers and values. Assumes nothing.
+#![tactic(auto)]
+
 mod bound;
 mod operator;
 
