@@ -11,30 +11,30 @@ ghost use Rattle.literals.specs.FileDigits.{file_number_of};
 use definitions::{FILE_NUMBER_LIMIT, INDEX_LIMIT};
 
 // The number behind an `x` in a file.
-#[derive(Drop)]
+#[derive(Clone, Copy)]
 pub struct FileNumber(u32);
 
 // A variable: its index.
-#[derive(Drop)]
+#[derive(Clone, Copy)]
 pub struct Var(u32);
 
 // A literal: its code, twice the index, plus 1 if negated.
-#[derive(Drop)]
+#[derive(Clone, Copy)]
 pub struct Lit(u32);
 
-#[derive(Drop)]
+#[derive(Clone, Copy)]
 pub enum FileNumberRead {
     Is(FileNumber),
     OutOfRange,
 }
 
-#[derive(Drop)]
+#[derive(Clone, Copy)]
 pub enum VarRead {
     Is(Var),
     OutOfRange,
 }
 
-#[derive(Drop)]
+#[derive(Clone, Copy)]
 pub enum LitRead {
     Is(Lit),
     OutOfRange,
