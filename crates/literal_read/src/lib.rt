@@ -1,5 +1,7 @@
 // A literal, read at the front of a rest of the file: "optional `~` or `-` (negation), `x`, digits" (01, "The text").
 // specs/Said.antt says what each answer is in 01's numbers and values. Assumes nothing.
+#![tactic(auto)]
+
 ghost use Rattle.std.specs.Prelude.{◌≡◌};
 ghost use Rattle.definitions.specs.Text.{digits, variable, literal};
 ghost use Rattle.literal_read.specs.Said.{said_literal};
@@ -14,7 +16,7 @@ const NO_LITERAL: u8 = 4;
 const OUT_OF_RANGE: u8 = 5;
 
 // A literal and the bytes that it takes, or what it is refused for.
-#[derive(Drop)]
+#[derive(Clone, Copy)]
 pub enum LiteralRead {
     Literal(Lit, usize),
     Refused(Fault),
