@@ -20,7 +20,7 @@ pub fn add_needed(number: u64, more: u64) -> u64
 
 // Where the hundreds, the tens and the ones of a number below 10,000 stand in its text, counted from its first digit. A
 // digit that would be a zero in front has the place of the one behind it.
-#[derive(Drop)]
+#[derive(Clone, Copy)]
 pub struct Places {
     pub hundreds: usize,
     pub tens: usize,

@@ -1,13 +1,13 @@
 -- Laws of printing: any text that fits or does not, the digits of a number from the last ones on, a sign before them,
 -- and a text byte by byte.
 use mathlib.Core.Path.{◌≡◌, refl, sym, ap, ◌∙◌}
-use mathlib.Core.Bool.{Bool, true, false, not, cond}
+use mathlib.Core.Bool.{Bool, true, false, cond}
 use mathlib.Core.List.{List, [], ◌∷◌, ◌++◌, append_assoc, append-nil}
 use Prim.Native.Nat.{ℕ, suc, ◌+◌, ◌-◌, ◌%◌, ◌/◌, ◌≤◌, ◌<◌}
 use native.Mathlib.Omega.{arith}
 use native.Mathlib.Numerals.{add-one}
 use lib.Dec.{leb}
-use borrow.Author.Tests.{le-leb, le-ltb, leb-true, not-true, not-false}
+use borrow.Author.Tests.{le-leb, le-ltb, leb-true}
 use lib.ListN.{length, get_or, take, drop, set, length-set, take-append-drop}
 use lib.IntN.{ℤ, pos, negsuc, nat_abs}
 use lib.Signed.{lt_z}
@@ -27,14 +27,14 @@ use Rattle.outputs.proofs.Four.{decimal-fours, decimal-length-fours}
 module _ (text : List ℕ) (at : ℕ) (o : List ℕ) (n : ℕ) (e : n ≡ length text) where
   -- r is the code's test whether the text, n bytes, has room
   module _ (r : Bool) (t : r ≡ leb (at + n) (length o)) where
-    pub refused : not r ≡ true → Prints text at o Full o
+    pub refused : r ≡ false → Prints text at o Full o
     unfolding put_at put_in
     refused f =
-        let l : leb (at + length text) (length o) ≡ false = rw (t, e) at (not-true r f) in
+        let l : leb (at + length text) (length o) ≡ false = rw (t, e) at f in
         record { answer = rw l; after = rw l }
 
-    pub has_room : not r ≡ false → at + n ≤ length o
-    has_room f = leb-true _ _ (rw t at (not-false r f))
+    pub has_room : r ≡ true → at + n ≤ length o
+    has_room f = leb-true _ _ (rw t at f)
 
   pub done : (p : ℕ) (o' : List ℕ) → at + n ≤ length o → p ≡ at + n
       → o' ≡ take at o ++ (text ++ drop (at + n) o) → Prints text at o (Done p) o'

@@ -1,4 +1,6 @@
 // Text into a lent output: a number, a count or any bytes printed at a place. Assumes nothing.
+#![tactic(auto)]
+
 ghost use Rattle.std.specs.Prelude.{◌≡◌, ◌++◌, ◌+◌, ◌<◌, ◌≤◌, leb, length, take, drop};
 ghost use Rattle.definitions.specs.Number.{decimal, integer_text};
 ghost use Rattle.lengths.specs.Places.{places_of, four_digits};
@@ -7,7 +9,7 @@ ghost use Rattle.outputs.specs.Print.{Prints, signed_text, four_bytes};
 use lengths::Places;
 
 // The place behind a printed text, or no room for it.
-#[derive(Drop)]
+#[derive(Clone, Copy)]
 pub enum Put {
     Done(usize),
     Full,
