@@ -10,7 +10,7 @@ use literals::Lit;
 use numbers::NumberRead;
 
 // A term and the bytes that it takes, or what it is refused for.
-#[derive(Drop)]
+#[derive(Clone, Copy)]
 pub enum TermRead {
     Term {
         weight: i64,
@@ -63,7 +63,7 @@ pub fn read_term(s: &[u8], options: Options) -> TermRead
 }
 
 // Where a sum goes on: the next term, or no digit and no sign.
-#[derive(Drop)]
+#[derive(Clone, Copy)]
 pub enum NextTerm {
     Term {
         weight: i64,
