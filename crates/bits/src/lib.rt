@@ -1,6 +1,8 @@
 // Bits of lent words: "variable v is bit v mod 64 of word v/64" (01); and by them what two rows of words, the values
 // and which of them are known, say of a literal (02, A1). A bit beyond the words is 0, and making it changes nothing.
 // Assumes nothing.
+#![tactic(auto)]
+
 ghost use Rattle.std.specs.Prelude.{◌≡◌, not, ◌&&◌, [], ◌∷◌, ◌<◌};
 ghost use Rattle.definitions.specs.Literal.{index_of};
 ghost use Rattle.definitions.specs.Meaning.{is_true, assigned, is_known};
