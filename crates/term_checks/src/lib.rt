@@ -1,5 +1,7 @@
 // What is asked of the terms of a row, in lent columns (01, "Numbers and tables"), by reader, normaliser, evaluator and
 // writer alike: whether its variables are within the limit, and how large its weights are together. Assumes nothing.
+#![tactic(auto)]
+
 ghost use Rattle.std.specs.Prelude.{◌≡◌, ◌+◌, nat_abs};
 ghost use Rattle.term_checks.specs.Sizes.{capped};
 ghost use Rattle.term_checks.specs.TermTests.{codes_indexed, weight_sizes};
