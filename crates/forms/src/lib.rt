@@ -1,4 +1,6 @@
 // The form of a block of value lines (02, A1): "The source's test on the whole block picks the form." Assumes nothing.
+#![tactic(auto)]
+
 ghost use Rattle.std.specs.Prelude.{◌≡◌, not, ◌&&◌, length};
 ghost use Rattle.definitions.specs.Bytes.{letter_x};
 ghost use Rattle.definitions.specs.Values.{is_white, is_bit, front_of, behind, among, only_bits, just_zero, form_of};

@@ -1,0 +1,13 @@
+-- `forms::bit_run` meets its contract. The loop's invariant: i bytes are passed, all of them zeros and ones; the
+-- measure is what is left of the length. Assumes nothing.
+use Prim.Native.Nat.{◌-◌}
+use lib.ListN.{length}
+use Rattle.definitions.specs.Values.{is_bit}
+use Rattle.items.proofs.Runs.{Passed}
+use Rattle.forms.proofs.bit_run.Given as goal
+
+abbrev pub invariant-loop-i : goal.invariant-loop-i
+invariant-loop-i l = Passed is_bit l.s l.i
+
+abbrev pub decreases-loop-i : goal.decreases-loop-i
+decreases-loop-i l = length l.s - l.i
