@@ -1,5 +1,7 @@
 // What closes a row behind its sum: a constraint's comparison, an objective's ending, and then 8 (01, "The text").
 // specs/Closed.antt says what each answer is in 01's numbers and values. Assumes nothing.
+#![tactic(auto)]
+
 ghost use Rattle.std.specs.Prelude.{◌≡◌};
 ghost use Rattle.definitions.specs.Text.{comparison, ending};
 ghost use Rattle.closings.specs.Closed.{said_row, closed_by, ended_by};
