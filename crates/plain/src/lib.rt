@@ -11,7 +11,7 @@ use definitions::Options;
 use plain_parts::{PlainLiteral, PlainWeight};
 
 // A term whose weight has a sign and a size, and whose literal has the file number of its variable.
-#[derive(Drop)]
+#[derive(Clone, Copy)]
 pub struct PlainTerm {
     pub negative: bool,
     pub size: u64,
@@ -20,7 +20,7 @@ pub struct PlainTerm {
 }
 
 // A plain term and the bytes that it takes, or anything else.
-#[derive(Drop)]
+#[derive(Clone, Copy)]
 pub enum PlainRead {
     Plain { term: PlainTerm, taken: usize },
     Other,
