@@ -1,4 +1,6 @@
 // A term as it is printed, and the sums of a row's weights (01, "The lines written"). Assumes nothing.
+#![tactic(auto)]
+
 mod sums;
 mod terms;
 

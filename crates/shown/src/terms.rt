@@ -7,7 +7,7 @@ ghost use Rattle.shown.specs.Terms.{flipped_code, own_weight, own_term, Shows};
 use literals::{Lit, Var};
 
 // How the terms of a row are written.
-#[derive(Drop)]
+#[derive(Clone, Copy)]
 pub struct Style {
     // "Clause and cardinality rows have every weight 1, the weight column is not looked at."
     pub unit: bool,
@@ -22,7 +22,7 @@ pub struct Style {
 
 // A term as it is printed: its weight in the row, the weight that is printed, whether `~` stands before the variable,
 // and the variable; and whether the bound falls by the weight.
-#[derive(Drop)]
+#[derive(Clone, Copy)]
 pub struct Shown {
     pub own: i64,
     pub weight: i64,
