@@ -1,5 +1,7 @@
 // Text into a lent output that is known to have room for it, since its length was measured before: the place behind the
 // text is all that is answered. Where it does not fit nothing is changed, and the place stays. Assumes nothing.
+#![tactic(auto)]
+
 ghost use Rattle.std.specs.Prelude.{◌≡◌};
 ghost use Rattle.definitions.specs.Number.{decimal, integer_text};
 ghost use Rattle.definitions.specs.House.{field};
