@@ -1,6 +1,8 @@
 // A sum: as many terms as there are (01, "The text"). Both walks over a file are one function here: it checks and
 // counts the terms, and puts them into two lent columns as far as these have room; the first walk lends none. Plain
 // terms are passed by a loop of their own (run.rt). Assumes nothing.
+#![tactic(auto)]
+
 mod run;
 
 ghost use Rattle.sums.specs.Walked.{TermPut, SumWalked};
@@ -10,7 +12,7 @@ use literals::Lit;
 use pieces::NextTerm;
 
 // How many terms, their absolute weights added up to a cap, and the bytes that they take; or what is refused.
-#[derive(Drop)]
+#[derive(Clone, Copy)]
 pub enum SumRead {
     Sum {
         terms: usize,

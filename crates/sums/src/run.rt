@@ -14,7 +14,7 @@ use term_checks::SIZE_CAP;
 
 // How many terms are counted and what their absolute weights add up to, with those of a run; and the bytes that the run
 // takes.
-#[derive(Drop)]
+#[derive(Clone, Copy)]
 pub struct PlainRun {
     pub terms: usize,
     pub size: u64,
