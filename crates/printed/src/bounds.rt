@@ -8,7 +8,7 @@ use crate::kinds::{is_at_most, is_objective};
 use definitions::{GREATEST, Kind, LEAST, WEIGHT_LIMIT};
 use shown::Sums;
 
-#[derive(Drop)]
+#[derive(Clone, Copy)]
 pub enum Bound {
     Is(i64),
     // "a result beyond signed 64 bits": 8

@@ -9,14 +9,14 @@ use definitions::{Kind, Mode};
 use shown::Style;
 
 // A row that is no comment: its kind, whether every weight is 1, and its bound.
-#[derive(Drop)]
+#[derive(Clone, Copy)]
 pub struct Shape {
     pub kind: Kind,
     pub unit: bool,
     pub bound: i64,
 }
 
-#[derive(Drop)]
+#[derive(Clone, Copy)]
 pub enum Sort {
     Comment,
     Row(Shape),
