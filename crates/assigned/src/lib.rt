@@ -2,6 +2,8 @@
 // known or with a second row of words that says which variables are (02, A1). Whether variables have a value, and how
 // many are known and true. With `all` everything that the words hold is known, and the known words are not looked at.
 // Assumes nothing.
+#![tactic(auto)]
+
 ghost use Rattle.std.specs.Prelude.{◌≡◌};
 ghost use Rattle.assigned.specs.WordsSay.{looked, known_word, has_by, ones_by, codes_covered};
 
