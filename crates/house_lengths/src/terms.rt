@@ -6,7 +6,7 @@ ghost use Rattle.house_lengths.specs.Lengths.{said_term_length, term_length};
 
 use literals::{FileNumber, FileNumberRead, Lit};
 
-#[derive(Drop)]
+#[derive(Clone, Copy)]
 pub enum TermLength {
     Is(usize),
     // "file number beyond u32": 5
