@@ -1,5 +1,5 @@
 /* opb.h: read, normalise, evaluate, write and list OPB files (linear pseudo-Boolean constraints), and read a solver's value lines, over columns and words that the caller lends. Link with
- * libopb.a, which tools/archive makes on x86-64 and on aarch64 Linux; where both are installed, `pkg-config --cflags --libs opb` names them.
+ * libopb.a, which tools/archive makes for x86-64 and for aarch64 Linux; where both are installed, `pkg-config --cflags --libs opb` names them.
  *
  * An example, which the tests compile and run: a file is read and written again with plain variables only.
  *
