@@ -7,7 +7,7 @@ ghost use Rattle.definitions.specs.Text.{min_blanks, remark};
 ghost use Rattle.beginnings.specs.Said.{said_min, said_comment};
 
 // `min:` and the blanks behind it, with how many these are, or another word (2).
-#[derive(Drop)]
+#[derive(Clone, Copy)]
 pub enum MinRead {
     Min(usize),
     Missing,
@@ -15,7 +15,7 @@ pub enum MinRead {
 
 // Where a comment's text begins, counted from its `*`, how long it is, and the bytes that the comment takes with its
 // line ending.
-#[derive(Drop)]
+#[derive(Clone, Copy)]
 pub enum CommentRead {
     Comment {
         first: usize,

@@ -11,7 +11,7 @@ use frames::{ComparisonRead, EndingRead};
 use operators::BoundRead;
 
 // A row, its terms counted and its first term still 0, with its bytes; or what is refused.
-#[derive(Drop)]
+#[derive(Clone, Copy)]
 pub enum RowRead {
     Row { entry: Entry, taken: usize },
     Refused(Fault),

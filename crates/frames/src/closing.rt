@@ -8,7 +8,7 @@ use numbers::NumberRead;
 use operators::OperatorRead;
 
 // Whether a `;` stands in an ending, and the bytes that it takes; or none (7).
-#[derive(Drop)]
+#[derive(Clone, Copy)]
 pub enum EndingRead {
     Ending(bool, usize),
     Missing,
@@ -16,7 +16,7 @@ pub enum EndingRead {
 
 // An operator, the number behind it, whether a `;` closes them, and the bytes of all with the ending; or what is
 // refused.
-#[derive(Drop)]
+#[derive(Clone, Copy)]
 pub enum ComparisonRead {
     Comparison {
         operator: OpbOperator,

@@ -8,7 +8,7 @@ ghost use Rattle.operators.specs.Said.{said_bound};
 use definitions::{AT_LEAST, AT_MOST, EQUAL, GREATEST, LEAST, OpbOperator};
 
 // A bound, or none in 64 bits (8).
-#[derive(Drop)]
+#[derive(Clone, Copy)]
 pub enum BoundRead {
     Bound(i64),
     Beyond,

@@ -7,7 +7,7 @@ ghost use Rattle.operators.specs.Said.{said_operator};
 use definitions::OpbOperator;
 
 // An operator and the bytes that it takes, or none (6).
-#[derive(Drop)]
+#[derive(Clone, Copy)]
 pub enum OperatorRead {
     Operator(OpbOperator, usize),
     Missing,

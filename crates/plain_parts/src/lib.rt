@@ -12,7 +12,7 @@ ghost use Rattle.plain_parts.specs.PartForms.{weight_at, literal_at, said_weight
 use crate::word::PartRead;
 
 // A weight, by its sign and its size, and the bytes that it takes without the space behind it; or anything else.
-#[derive(Drop)]
+#[derive(Clone, Copy)]
 pub enum PlainWeight {
     Weight {
         negative: bool,
@@ -24,7 +24,7 @@ pub enum PlainWeight {
 
 // A literal, by the file number of its variable, and the bytes that it takes without the space behind it; or anything
 // else.
-#[derive(Drop)]
+#[derive(Clone, Copy)]
 pub enum PlainLiteral {
     Literal {
         negated: bool,

@@ -20,7 +20,7 @@ const LOWER_HALF: u64 = 0xffff_ffff;
 
 // A part of a term: whether it is marked by a `-` or a `~`, its digits in the highest lanes, below which all are 0, and
 // the bytes that it takes; or anything else.
-#[derive(Drop)]
+#[derive(Clone, Copy)]
 pub enum PartRead {
     Lanes {
         marked: bool,
