@@ -13,7 +13,7 @@ use definitions::{COMMENT, Entry, Refusal};
 
 // Nothing but blanks; a refusal; a row of the table, with the bytes that its statement takes. A refusal's place and a
 // comment's first are counted from where the reading began; a comment has no terms.
-#[derive(Drop)]
+#[derive(Clone, Copy)]
 pub enum StatementRead {
     End,
     Refused(Refusal),

@@ -1,0 +1,17 @@
+-- `row_after` meets its contract: each answer, k blanks on.
+use Prim.Native.Nat.{◌+◌, ◌<◌, ◌^◌}
+use native.Mathlib.Omega.{arith}
+use borrow.Author.Rules.{rules}
+use Rattle.statements.proofs.row.row_after.Goals as goal
+
+pub overflow_add-result : goal.overflow_add-result
+overflow_add-result c =
+    let h : c.args.k + c.in-Row.taken < 2 ^ 64 =
+    rw c.in-Row.is at c.requires in
+    omega arith
+
+pub returns-in-Refused : goal.returns-in-Refused
+returns-in-Refused c = rw c.in-Refused.is
+
+pub returns-in-Row : goal.returns-in-Row
+returns-in-Row c = rw c.in-Row.is
