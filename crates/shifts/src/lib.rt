@@ -1,5 +1,7 @@
 // What the bound of a row moves by when its negative weights become positive (01, "Normalising and evaluating"): "a
 // bound grows by -w, an objective's offset falls by -w". Assumes nothing.
+#![tactic(auto)]
+
 ghost use Rattle.std.specs.Prelude.{◌≡◌, min};
 ghost use Rattle.definitions.specs.Limits.{weight_limit};
 ghost use Rattle.shifts.specs.Shifts.{weight_rises, shift_of};
