@@ -1,5 +1,7 @@
 // The last walk over a block of signed numbers or `x` tokens (02, A1), which is known to be good: each literal becomes
 // true. In any other block, those before the first 20, 21 or 5. Assumes nothing.
+#![tactic(auto)]
+
 ghost use Rattle.std.specs.Prelude.{◌≡◌, map};
 ghost use Rattle.definitions.specs.Values.{front, items_from, valued, marked};
 ghost use Rattle.settling.specs.Flat.{said_by, code_in};
