@@ -9,7 +9,7 @@ use statements::StatementRead;
 
 // Nothing but blanks; a refusal with its place; a row of the table, with the offset after its statement. A comment's
 // first is its offset in the file, any other row's is 0.
-#[derive(Drop)]
+#[derive(Clone, Copy)]
 pub enum Stepped {
     End,
     Refused(Refusal),

@@ -1,0 +1,104 @@
+-- `step_at` meets its contract: a file above the limit, an offset past the end, and what `opb_data` answers at the
+-- offset (proofs/StepAnswers.antt).
+use Prim.Native.Nat.{ℕ, ◌≤◌}
+use mathlib.Core.List.{List}
+use mathlib.Core.Path.{◌≡◌, ap, sym, ◌∙◌}
+use native.Mathlib.Omega.{arith}
+use borrow.Author.Rules.{rules}
+use lib.ListN.{length, drop}
+use Rattle.definitions.specs.declared.Refusal.{Refusal}
+use Rattle.definitions.specs.Limits.{file_limit}
+use Rattle.definitions.specs.Text.{statement}
+use Rattle.definitions.specs.Walk.{bad, item}
+use Rattle.definitions.specs.declared.Entry.{Entry}
+use Rattle.definitions.specs.declared.Options.{Options}
+use Rattle.definitions.proofs.Parts.{part-is}
+use Rattle.statements.specs.Brief.{brief_step}
+use Rattle.statements.specs.Said.{said_statement}
+use Rattle.walker.proofs.StepAnswers.{step-long, step_past, step_end, refusal-fits, step-refused, first_fits, next_fits, step_line}
+use Rattle.walker.proofs.steps.step_at.Statement as theorem
+use Rattle.walker.proofs.steps.step_at.Goals as goal
+use Rattle.walker.proofs.steps.step_at.Goals.{After-opb_data, In-Line, In-Refused, Start}
+
+-- the statement has been read
+module _ (c : After-opb_data) where
+  abbrev start : Start
+  start = (goal.at.After-opb_data c).Start
+
+  abbrev options : Options
+  options = start.args.options
+
+  abbrev text : List ℕ
+  text = start.args.file.now
+
+  abbrev place : ℕ
+  place = start.args.at
+
+  short : length text ≤ file_limit
+  short = c.if-file-gt-FILE_LIMIT.false
+
+  within : place ≤ length text
+  within = c.if-file-at.false
+
+  read : said_statement c.opb_data.result ≡ brief_step (statement options (drop place text))
+  read = c.opb_data.ensures ∙ ap (λ (t : List ℕ). brief_step (statement options t)) (part-is text place)
+
+-- a refusal
+module _ (c : In-Refused) where
+  abbrev at-bad : After-opb_data
+  at-bad = (goal.at.In-Refused c).After-opb_data
+
+  abbrev refusal : Refusal
+  refusal = c.in-Refused.refusal
+
+  refusal_is : bad refusal ≡ brief_step (statement (options at-bad) (drop (place at-bad) (text at-bad)))
+  refusal_is = sym (ap said_statement c.in-Refused.is) ∙ read at-bad
+
+-- a row
+module _ (c : In-Line) where
+  abbrev here : After-opb_data
+  here = (goal.at.In-Line c).After-opb_data
+
+  abbrev found : Entry
+  found = c.in-Line.entry
+
+  abbrev bytes : ℕ
+  bytes = c.in-Line.taken
+
+  line-is : item found bytes ≡ brief_step (statement (options here) (drop (place here) (text here)))
+  line-is = sym (ap said_statement c.in-Line.is) ∙ read here
+
+pub returns-then-file-gt-FILE_LIMIT : goal.returns-then-file-gt-FILE_LIMIT
+returns-then-file-gt-FILE_LIMIT c = step-long _ _ _ c.if-file-gt-FILE_LIMIT.true
+
+pub returns-then-file-at : goal.returns-then-file-at
+returns-then-file-at c = step_past _ _ _ c.if-file-gt-FILE_LIMIT.false c.if-file-at.true
+
+pub overflow_add-result : goal.overflow_add-result
+overflow_add-result c =
+    let d = at-bad (goal.at.overflow_add-result c).In-Refused in
+    omega (arith, refusal-fits (options d) (text d) (place d) (short d) (within d) (refusal (goal.at.overflow_add-result c).In-Refused) (refusal_is (goal.at.overflow_add-result c).In-Refused))
+
+pub overflow_add-at : goal.overflow_add-at
+overflow_add-at c =
+    let d = here (goal.at.overflow_add-at c).In-Line in
+    omega (arith, first_fits (options d) (text d) (place d) (short d) (within d) _ _ (line-is (goal.at.overflow_add-at c).In-Line))
+
+pub overflow_add-result-in-Line : goal.overflow_add-result-in-Line
+overflow_add-result-in-Line c =
+    let d = here (goal.at.overflow_add-result-in-Line c).In-Line in
+    omega (arith, next_fits (options d) (text d) (place d) (short d) (within d) _ _ (line-is (goal.at.overflow_add-result-in-Line c).In-Line))
+
+pub returns-in-End : goal.returns-in-End
+returns-in-End c =
+    step_end (options (goal.at.returns-in-End c).After-opb_data) (text (goal.at.returns-in-End c).After-opb_data) (place (goal.at.returns-in-End c).After-opb_data) (short (goal.at.returns-in-End c).After-opb_data) (sym (ap said_statement c.in-End.is) ∙ read (goal.at.returns-in-End c).After-opb_data)
+
+pub returns-in-Refused : goal.returns-in-Refused
+returns-in-Refused c =
+    let d = at-bad (goal.at.returns-in-Refused c).In-Refused in
+    step-refused (options d) (text d) (place d) (short d) (within d) (refusal (goal.at.returns-in-Refused c).In-Refused) (refusal_is (goal.at.returns-in-Refused c).In-Refused)
+
+pub returns-in-Line : goal.returns-in-Line
+returns-in-Line c =
+    let d = here (goal.at.returns-in-Line c).In-Line in
+    rw c.first_of.ensures (step_line (options d) (text d) (place d) (short d) (within d) (found (goal.at.returns-in-Line c).In-Line) (bytes (goal.at.returns-in-Line c).In-Line) (line-is (goal.at.returns-in-Line c).In-Line))
