@@ -1,5 +1,7 @@
 // The first walk over a file: every statement is checked, rows and terms are counted (01, "What must change shape"),
 // and what was counted is held against the room for it. Assumes nothing.
+#![tactic(auto)]
+
 ghost use Rattle.std.specs.Prelude.{◌≡◌};
 ghost use Rattle.definitions.specs.Answers.{said_counted};
 ghost use Rattle.definitions.specs.Table.{counted};

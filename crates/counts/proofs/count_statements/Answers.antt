@@ -1,0 +1,107 @@
+-- `count_statements` meets its contract: the loop stands at an offset with the rows and terms before it counted
+-- (`Counting`, of the crate statements). The measure is what is left of the file.
+use Prim.Native.Nat.{ℕ, ◌+◌, ◌-◌, ◌≤◌}
+use mathlib.Core.List.{List}
+use mathlib.Core.Path.{◌≡◌, ap, sym, ◌∙◌}
+use native.Mathlib.Omega.{arith}
+use borrow.Author.Rules.{rules}
+use lib.ListN.{length, drop}
+use Rattle.definitions.specs.Text.{statement}
+use Rattle.definitions.specs.declared.Options.{Options}
+use Rattle.definitions.specs.Walk.{bad}
+use Rattle.definitions.proofs.Parts.{part-is}
+use Rattle.columns.specs.Kinds.{terms_of_kind}
+use Rattle.statements.specs.Brief.{brief_step}
+use Rattle.statements.specs.Said.{said_statement}
+use Rattle.statements.proofs.Briefs.{LineIs, brief-stop, brief-bad, brief-item}
+use Rattle.statements.proofs.Counts.{Counting, counting-start, counting-stop, counting-bad, counting-line, place-fits}
+use Rattle.statements.proofs.Counts.{line-has-byte, line-end-within, line-terms-fewer}
+use Rattle.counts.proofs.count_statements.Statement as theorem
+use Rattle.counts.proofs.count_statements.Goals as goal
+use Rattle.counts.proofs.count_statements.Goals.{After-opb_data, In-Line, In-Refused}
+
+-- the statement has been read
+module _ (c : After-opb_data) where
+  abbrev options : Options
+  options = c.args.options
+
+  abbrev text : List ℕ
+  text = c.args.s.now
+
+  abbrev place : ℕ
+  place = c.loop-refusal.at
+
+  abbrev stand : Counting options text place c.loop-refusal.rows c.loop-refusal.terms
+  stand = c.loop-refusal.invariant
+
+  read : said_statement c.opb_data.result ≡ brief_step (statement options (drop place text))
+  read = c.opb_data.ensures ∙ ap (λ (t : List ℕ). brief_step (statement options t)) (part-is text place)
+
+-- a refusal
+module _ (c : In-Refused) where
+  abbrev at-bad : After-opb_data
+  at-bad = (goal.at.In-Refused c).After-opb_data
+
+  refusal_is : statement (options at-bad) (drop (place at-bad) (text at-bad))
+      ≡ bad c.in-Refused.refusal
+  refusal_is = brief-bad _ _ (sym (ap said_statement c.in-Refused.is) ∙ read at-bad)
+
+-- a row
+module _ (c : In-Line) where
+  abbrev here : After-opb_data
+  here = (goal.at.In-Line c).After-opb_data
+
+  abbrev terms : ℕ
+  terms = terms_of_kind c.in-Line.entry.kind c.in-Line.entry.count
+
+  abbrev count : ℕ
+  count = c.in-Line.taken
+
+  line-is : LineIs (statement (options here) (drop (place here) (text here))) terms count
+  line-is = brief-item _ _ _ (sym (ap said_statement c.in-Line.is) ∙ read here)
+
+  within : place here + count ≤ length (text here)
+  within = line-end-within _ _ _ _ _ (stand here) terms count line-is
+
+pub loop-refusal-init : goal.loop-refusal-init
+loop-refusal-init c = counting-start _ _
+
+pub slice_bounds-opb_data-count : goal.slice_bounds-opb_data-count
+slice_bounds-opb_data-count c = c.loop-refusal.invariant.stands.within
+
+pub slice_bounds-opb_data-start : goal.slice_bounds-opb_data-start
+slice_bounds-opb_data-start c = c.loop-refusal.invariant.stands.within
+
+pub returns-in-End : goal.returns-in-End
+returns-in-End c =
+    counting-stop _ _ _ _ _ (stand (goal.at.returns-in-End c).After-opb_data) (brief-stop _ (sym (ap said_statement c.in-End.is) ∙ read (goal.at.returns-in-End c).After-opb_data))
+
+pub overflow_add-result : goal.overflow_add-result
+overflow_add-result c = omega (arith, place-fits _ _ _ _ _ (stand (at-bad (goal.at.overflow_add-result c).In-Refused)) _ (refusal_is (goal.at.overflow_add-result c).In-Refused))
+
+pub returns-in-Refused : goal.returns-in-Refused
+returns-in-Refused c = counting-bad _ _ _ _ _ (stand (at-bad (goal.at.returns-in-Refused c).In-Refused)) _ (refusal_is (goal.at.returns-in-Refused c).In-Refused)
+
+pub overflow_add-rows : goal.overflow_add-rows
+overflow_add-rows c = omega (arith, within c, line-has-byte _ _ _ _ _ (stand (here c)) (terms c) (count c) (line-is c), (stand (here c)).fewer-rows)
+
+pub overflow_add-terms : goal.overflow_add-terms
+overflow_add-terms c =
+    omega (
+      arith,
+      c.terms_of-terms.ensures,
+      within (goal.at.overflow_add-terms c).In-Line,
+      line-terms-fewer _ _ _ _ _ (stand (here (goal.at.overflow_add-terms c).In-Line)) (terms (goal.at.overflow_add-terms c).In-Line) (count (goal.at.overflow_add-terms c).In-Line) (line-is (goal.at.overflow_add-terms c).In-Line),
+      (stand (here (goal.at.overflow_add-terms c).In-Line)).fewer-terms,
+    )
+
+pub overflow_add-at : goal.overflow_add-at
+overflow_add-at c = omega (arith, within (goal.at.overflow_add-at c).In-Line)
+
+pub loop-refusal-smaller : goal.loop-refusal-smaller
+loop-refusal-smaller c =
+    omega (arith, within (goal.at.loop-refusal-smaller c).In-Line, line-has-byte _ _ _ _ _ (stand (here (goal.at.loop-refusal-smaller c).In-Line)) (terms (goal.at.loop-refusal-smaller c).In-Line) (count (goal.at.loop-refusal-smaller c).In-Line) (line-is (goal.at.loop-refusal-smaller c).In-Line))
+
+pub loop-refusal-preserved : goal.loop-refusal-preserved
+loop-refusal-preserved c =
+    rw c.terms_of-terms.ensures (counting-line _ _ _ _ _ (stand (here (goal.at.loop-refusal-preserved c).In-Line)) (terms (goal.at.loop-refusal-preserved c).In-Line) (count (goal.at.loop-refusal-preserved c).In-Line) (line-is (goal.at.loop-refusal-preserved c).In-Line))
