@@ -1,6 +1,8 @@
 // The sum of a row's terms under an assignment lent as words (01, "Normalising and evaluating"): "11, 8 for absolute
 // weights, 12", or the sum. What the words assign is asked of crates/assigned, which `words`, `known` and `all` are
 // for. Assumes nothing.
+#![tactic(auto)]
+
 ghost use Rattle.std.specs.Prelude.{◌≡◌, true, ◌*◌, ◌≤◌, ◌<◌, length};
 ghost use Rattle.definitions.specs.Limits.{weight_limit};
 ghost use Rattle.definitions.specs.Literal.{index_of};
@@ -15,7 +17,7 @@ use definitions::{WEIGHT_LIMIT, WORD_LIMIT};
 use literals::Lit;
 
 // The sum, or the number of the refusal.
-#[derive(Drop)]
+#[derive(Clone, Copy)]
 pub enum Summed {
     Refused(u8),
     Is(i64),
