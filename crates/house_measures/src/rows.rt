@@ -16,20 +16,20 @@ const NO_ROW: u8 = 11;
 const NO_NUMBER: u8 = 5;
 
 // How many terms, and the length of the lines.
-#[derive(Drop)]
+#[derive(Clone, Copy)]
 pub struct Size {
     pub terms: u64,
     pub length: u64,
 }
 
-#[derive(Drop)]
+#[derive(Clone, Copy)]
 pub(crate) enum RowSize {
     Is(Size),
     // 11 or 5
     Refused(u8),
 }
 
-#[derive(Drop)]
+#[derive(Clone, Copy)]
 pub enum Measured {
     // How many rows, and their sizes together.
     Lines(usize, Size),

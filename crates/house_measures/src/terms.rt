@@ -8,7 +8,7 @@ use lengths::add_needed;
 use literals::Lit;
 
 // Of all terms of a row.
-#[derive(Drop)]
+#[derive(Clone, Copy)]
 pub(crate) enum TermsLength {
     Is(u64),
     OutOfRange,
