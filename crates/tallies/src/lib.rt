@@ -1,5 +1,7 @@
 // A whole walk of steps: every statement is checked, rows and terms are counted. Nothing is kept but the offset and the
 // counts. Assumes nothing.
+#![tactic(auto)]
+
 ghost use Rattle.std.specs.Prelude.{◌≡◌};
 ghost use Rattle.definitions.specs.Answers.{said_counted};
 ghost use Rattle.definitions.specs.Table.{counted};
