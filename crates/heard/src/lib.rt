@@ -1,5 +1,7 @@
 // A block of signed numbers or `x` tokens (02, A1): what is heard in it. Two walks: one finds the first 20, 21 or 5 and
 // the length, one the first conflict before it. Assumes nothing.
+#![tactic(auto)]
+
 mod conflicts;
 mod survey;
 
