@@ -1,0 +1,74 @@
+-- `fill_terms` meets its contract: the end, the statement's own refusal, 10, and the terms (proofs/FillTerms.antt).
+use Prim.Native.Nat.{ℕ}
+use mathlib.Core.List.{List}
+use mathlib.Core.Path.{◌≡◌, ap, sym, subst, ◌∙◌}
+use native.Mathlib.Omega.{arith}
+use borrow.Author.Rules.{rules}
+use lib.IntN.{ℤ}
+use Rattle.definitions.specs.Walk.{Step}
+use Rattle.definitions.specs.Row.{Line}
+use Rattle.definitions.specs.Text.{statement}
+use Rattle.definitions.specs.Stepping.{columns_room}
+use Rattle.statements.specs.Said.{said_statement}
+use Rattle.statements.proofs.Briefs.{LineIs, brief-item}
+use Rattle.statements.proofs.MetTerms.{statement-met}
+use Rattle.fills.proofs.FillTerms.{fill_end, fill-refused, fill-beyond, fill-whole}
+use Rattle.fills.proofs.terms.fill_terms.Statement as theorem
+use Rattle.fills.proofs.terms.fill_terms.Goals as goal
+use Rattle.fills.proofs.terms.fill_terms.Goals.{After-opb_data, After-term_room, After-terms_of-terms, In-Line, Start}
+
+-- the statement has been read
+module _ (c : After-opb_data) where
+  abbrev start : Start
+  start = (goal.at.After-opb_data c).Start
+
+  abbrev weights : List ℤ
+  weights = start.args.weights.now
+
+  abbrev literals : List ℕ
+  literals = start.args.literals.now
+
+  abbrev here : Step Line
+  here = statement start.args.options start.args.s.now
+
+-- a line, with its terms counted and the room measured
+module _ (c : After-term_room) where
+  abbrev counted : After-terms_of-terms
+  counted = (goal.at.After-term_room c).After-terms_of-terms
+
+  abbrev told : In-Line
+  told = (goal.at.After-terms_of-terms counted).In-Line
+
+  abbrev begun : After-opb_data
+  begun = (goal.at.In-Line told).After-opb_data
+
+  abbrev terms : ℕ
+  terms = counted.terms_of-terms.result
+
+  abbrev taken : ℕ
+  taken = told.in-Line.taken
+
+  line-is : LineIs (here begun) terms taken
+  line-is =
+      subst (λ (n : ℕ). LineIs (here begun) n taken) (sym counted.terms_of-terms.ensures)
+      (brief-item _ _ _ (sym (ap said_statement told.in-Line.is) ∙ begun.opb_data.ensures))
+
+  room : c.term_room.result ≡ columns_room (weights begun) (literals begun)
+  room = c.term_room.ensures
+
+pub returns-then-term_room-terms : goal.returns-then-term_room-terms
+returns-then-term_room-terms c =
+    fill-beyond _ _ _ _ _ (line-is (goal.at.returns-then-term_room-terms c).After-term_room) (omega (arith, room (goal.at.returns-then-term_room-terms c).After-term_room, c.if-term_room-terms.true)) (search rules)
+
+pub returns-in-End : goal.returns-in-End
+returns-in-End c =
+    fill_end (here (goal.at.returns-in-End c).After-opb_data) _ _ (sym (ap said_statement c.in-End.is) ∙ c.opb_data.ensures)
+
+pub returns-in-Refused : goal.returns-in-Refused
+returns-in-Refused c =
+    fill-refused (here (goal.at.returns-in-Refused c).After-opb_data) _ _ _ (sym (ap said_statement c.in-Refused.is) ∙ c.opb_data.ensures)
+
+pub returns-else-term_room-terms : goal.returns-else-term_room-terms
+returns-else-term_room-terms c =
+    let i = line-is (goal.at.returns-else-term_room-terms c).After-term_room in
+    fill-whole _ _ _ _ _ i (omega (arith, room (goal.at.returns-else-term_room-terms c).After-term_room, c.if-term_room-terms.false)) _ _ _ (statement-met _ _ _ _ i.is) c.walk_statement.ensures.filled
