@@ -1,5 +1,7 @@
 // The house line of a refusal (01, "Examples on each side"): how long it is, and put into a lent output. Assumes
 // nothing.
+#![tactic(auto)]
+
 ghost use Rattle.std.specs.Prelude.{◌≡◌, ◌≤◌, length};
 ghost use Rattle.definitions.specs.Refusal.{refusal};
 ghost use Rattle.definitions.specs.House.{refused_line};
