@@ -1,0 +1,41 @@
+-- `parse_opb_data` meets its contract: what the first walk counted, held against the room, is what `reading` says
+-- (proofs/Files.antt).
+use mathlib.Core.Path.{◌≡◌, sym, ap, ◌∙◌}
+use borrow.Author.Rules.{rules}
+use Rattle.definitions.specs.Answers.{said_counted}
+use Rattle.definitions.specs.Table.{Table, table, counted}
+use Rattle.definitions.specs.File.{reading}
+use Rattle.reader.proofs.Files.{reading-said, read-refused, ready}
+use Rattle.reader.proofs.file.parse_opb_data.Goals as goal
+use Rattle.reader.proofs.file.parse_opb_data.Goals.{After-fitted, Start}
+
+module _ (c : After-fitted) where
+  abbrev start : Start
+  start = (goal.at.After-fitted c).Start
+
+  abbrev lent : Table
+  lent =
+      table start.args.kinds.now start.args.firsts.now start.args.counts.now start.args.bounds.now
+      start.args.weights.now
+      start.args.literals.now
+
+  said : said_counted c.fitted.result ≡ counted (reading start.args.options start.args.s.now lent)
+  said =
+      reading-said start.args.options start.args.s.now lent c.count_file.result c.fitted.result
+      (rw (c.term_room-terms.ensures, c.row_room-rows.ensures) at c.fitted.ensures)
+      c.count_file.ensures
+
+pub fill_file-requires : goal.fill_file-requires
+fill_file-requires c =
+    ready _ _ (lent (goal.at.fill_file-requires c).After-fitted) _ (sym (ap said_counted c.in-Table.is) ∙ said (goal.at.fill_file-requires c).After-fitted)
+
+pub returns-in-Refused : goal.returns-in-Refused
+returns-in-Refused c =
+    read-refused _ _ (lent (goal.at.returns-in-Refused c).After-fitted) _ (sym (ap said_counted c.in-Refused.is) ∙ said (goal.at.returns-in-Refused c).After-fitted)
+
+pub returns-in-Table : goal.returns-in-Table
+returns-in-Table c =
+    record {
+      answer = sym (ap said_counted c.in-Table.is) ∙ said (goal.at.returns-in-Table c).After-fitted;
+      after = c.fill_file.ensures;
+    }

@@ -1,0 +1,181 @@
+-- `fill_file` meets its contract: what is filled so far is the invariant (proofs/FillLines.antt), and each statement
+-- adds its line and its terms.
+use Prim.Native.Nat.{ℕ, ◌-◌, ◌≤◌}
+use mathlib.Core.Path.{◌≡◌, sym, ap, ◌∙◌}
+use mathlib.Core.List.{List}
+use native.Mathlib.Omega.{arith}
+use borrow.Author.Rules.{rules, sfits_of}
+use borrow.Enum.Refused.{opened}
+use mir.Syntax.{w64}
+use mir.Val.{SFits}
+use mir.Facts.{to_z-of_z}
+use borrow.Rule.Slice.PartMut.{same_len_mid}
+use lib.ListN.{length, drop}
+use Rattle.definitions.specs.Table.{Table, table}
+use Rattle.definitions.specs.Walk.{item}
+use Rattle.definitions.proofs.Parts.{part-is}
+use Rattle.definitions.specs.declared.Entry.{Entry}
+use Rattle.statements.specs.Said.{said_statement}
+use Rattle.statements.specs.Walked.{StatementWalked}
+use Rattle.definitions.proofs.Columns.{rest_of, Lengths}
+use Rattle.reader.proofs.FillLines.{Good, good_of, Fills, fills-start, fills-lengths, fills-heavy, fills-known, fills-done}
+use Rattle.reader.proofs.FillLines.{LineMoves, fills-moves, fills-more}
+use Rattle.reader.proofs.fill.fill_file.Goals as goal
+use Rattle.reader.proofs.fill.fill_file.Goals.{After-walk_statement, At-loop-entry, In-Line, Start}
+
+-- a turn's beginning
+module _ (c : At-loop-entry) where
+  abbrev start : Start
+  start = (goal.at.At-loop-entry c).Start
+
+  abbrev text : List ℕ
+  text = start.args.s.now
+
+  abbrev place : ℕ
+  place = c.loop-entry.at
+
+  abbrev lent : Table
+  lent =
+      table start.args.kinds.now start.args.firsts.now start.args.counts.now start.args.bounds.now
+      start.args.weights.now
+      start.args.literals.now
+
+  good : Good start.args.options text lent
+  good = good_of start.args.options text lent start.requires.given start.requires.reads
+
+  abbrev filled_so : Table
+  filled_so = table c.loop-entry.kinds c.loop-entry.firsts c.loop-entry.counts c.loop-entry.bounds c.loop-entry.weights c.loop-entry.literals
+
+  lengths : Lengths filled_so lent
+  lengths = fills-lengths _ _ _ good _ _ _ _ c.loop-entry.invariant
+
+  heavy : c.loop-entry.term ≤ length lent.weights
+  heavy = fills-heavy _ _ _ good _ _ _ _ c.loop-entry.invariant
+
+  known : c.loop-entry.term ≤ length lent.literals
+  known = fills-known _ _ _ good _ _ _ _ c.loop-entry.invariant
+
+-- the statement there has filled its terms
+module _ (c : After-walk_statement) where
+  abbrev turn : At-loop-entry
+  turn = (goal.at.After-walk_statement c).At-loop-entry
+
+  left : StatementWalked (start turn).args.options (drop (place turn) (text turn)) (drop turn.loop-entry.term turn.loop-entry.weights)
+      (drop turn.loop-entry.term turn.loop-entry.literals)
+      c.walk_statement.result c.walk_statement.new.weights c.walk_statement.new.literals
+  left =
+      rw (
+        part-is (text turn) (place turn),
+        rest_of turn.loop-entry.weights turn.loop-entry.term,
+        rest_of turn.loop-entry.literals turn.loop-entry.term,
+      ) at c.walk_statement.ensures
+
+-- it was a line
+module _ (c : In-Line) where
+  abbrev here : After-walk_statement
+  here = (goal.at.In-Line c).After-walk_statement
+
+  abbrev found : Entry
+  found = c.in-Line.entry
+
+  abbrev bytes : ℕ
+  bytes = c.in-Line.taken
+
+  said : item found bytes ≡ said_statement here.walk_statement.result
+  said = sym (ap said_statement c.in-Line.is)
+
+  moves : LineMoves _ _ _ (good (turn here)) _ _ _ _ (turn here).loop-entry.invariant here.walk_statement.result _ _ (left here) found bytes said
+  moves =
+      fills-moves _ _ _ (good (turn here)) _ _ _ _ (turn here).loop-entry.invariant here.walk_statement.result _ _ (left here) found bytes said
+
+pub loop-entry-init : goal.loop-entry-init
+loop-entry-init c = fills-start _ _ _
+
+pub offset_bounds-weights-term : goal.offset_bounds-weights-term
+offset_bounds-weights-term c = omega (arith, heavy (goal.at.offset_bounds-weights-term c).At-loop-entry, (start (goal.at.offset_bounds-weights-term c).At-loop-entry).well_formed)
+
+pub slice_bounds-walk_statement-count-in-loop-entry : goal.slice_bounds-walk_statement-count-in-loop-entry
+slice_bounds-walk_statement-count-in-loop-entry c = omega (arith, (lengths (goal.at.slice_bounds-walk_statement-count-in-loop-entry c).At-loop-entry).weights, heavy (goal.at.slice_bounds-walk_statement-count-in-loop-entry c).At-loop-entry)
+
+pub slice_bounds-walk_statement-start-in-loop-entry : goal.slice_bounds-walk_statement-start-in-loop-entry
+slice_bounds-walk_statement-start-in-loop-entry c = omega (arith, (lengths (goal.at.slice_bounds-walk_statement-start-in-loop-entry c).At-loop-entry).weights, heavy (goal.at.slice_bounds-walk_statement-start-in-loop-entry c).At-loop-entry)
+
+pub offset_bounds-literals-term : goal.offset_bounds-literals-term
+offset_bounds-literals-term c = omega (arith, known (goal.at.offset_bounds-literals-term c).At-loop-entry, (start (goal.at.offset_bounds-literals-term c).At-loop-entry).well_formed)
+
+pub slice_bounds-walk_statement-count-in-loop-entry-2 : goal.slice_bounds-walk_statement-count-in-loop-entry-2
+slice_bounds-walk_statement-count-in-loop-entry-2 c = omega (arith, (lengths (goal.at.slice_bounds-walk_statement-count-in-loop-entry-2 c).At-loop-entry).literals, known (goal.at.slice_bounds-walk_statement-count-in-loop-entry-2 c).At-loop-entry)
+
+pub slice_bounds-walk_statement-start-in-loop-entry-2 : goal.slice_bounds-walk_statement-start-in-loop-entry-2
+slice_bounds-walk_statement-start-in-loop-entry-2 c = omega (arith, (lengths (goal.at.slice_bounds-walk_statement-start-in-loop-entry-2 c).At-loop-entry).literals, known (goal.at.slice_bounds-walk_statement-start-in-loop-entry-2 c).At-loop-entry)
+
+pub shape_of-kinds-in_default : goal.shape_of-kinds-in_default
+shape_of-kinds-in_default c = (lengths (turn (goal.at.shape_of-kinds-in_default c).After-walk_statement)).kinds
+
+pub shape_of-firsts-in_default : goal.shape_of-firsts-in_default
+shape_of-firsts-in_default c = (lengths (turn (goal.at.shape_of-firsts-in_default c).After-walk_statement)).firsts
+
+pub shape_of-counts-in_default : goal.shape_of-counts-in_default
+shape_of-counts-in_default c = (lengths (turn (goal.at.shape_of-counts-in_default c).After-walk_statement)).counts
+
+pub shape_of-bounds-in_default : goal.shape_of-bounds-in_default
+shape_of-bounds-in_default c = (lengths (turn (goal.at.shape_of-bounds-in_default c).After-walk_statement)).bounds
+
+pub shape_of-weights-in_default : goal.shape_of-weights-in_default
+shape_of-weights-in_default c =
+    let l = (turn (goal.at.shape_of-weights-in_default c).After-walk_statement).loop-entry in
+    same_len_mid l.term (length l.weights - l.term) l.weights c.walk_statement.new.weights
+    c.walk_statement.auto.weights ∙ (lengths (turn (goal.at.shape_of-weights-in_default c).After-walk_statement)).weights
+
+pub shape_of-literals-in_default : goal.shape_of-literals-in_default
+shape_of-literals-in_default c =
+    let l = (turn (goal.at.shape_of-literals-in_default c).After-walk_statement).loop-entry in
+    same_len_mid l.term (length l.literals - l.term) l.literals c.walk_statement.new.literals
+    c.walk_statement.auto.literals ∙ (lengths (turn (goal.at.shape_of-literals-in_default c).After-walk_statement)).literals
+
+pub returns-in_default : goal.returns-in_default
+returns-in_default c =
+    fills-done _ _ _ (good (turn (goal.at.returns-in_default c).After-walk_statement)) _ _ _ _ (turn (goal.at.returns-in_default c).After-walk_statement).loop-entry.invariant c.walk_statement.result _ _ (left (goal.at.returns-in_default c).After-walk_statement) (opened c.in_default.in_default-own.keys2)
+
+pub bounds-kinds-row : goal.bounds-kinds-row
+bounds-kinds-row c = let m = moves c in let l = lengths (turn (here c)) in omega arith
+
+pub overflow_add-at : goal.overflow_add-at
+overflow_add-at c = let m = moves (goal.at.overflow_add-at c).In-Line in omega (arith, (start (turn (here (goal.at.overflow_add-at c).In-Line))).well_formed)
+
+pub offset_bounds-firsts-row : goal.offset_bounds-firsts-row
+offset_bounds-firsts-row c = let m = moves (goal.at.offset_bounds-firsts-row c).In-Line in omega (arith, (start (turn (here (goal.at.offset_bounds-firsts-row c).In-Line))).well_formed)
+
+pub bounds-firsts-row : goal.bounds-firsts-row
+bounds-firsts-row c = let m = moves (goal.at.bounds-firsts-row c).In-Line in let l = lengths (turn (here (goal.at.bounds-firsts-row c).In-Line)) in omega arith
+
+pub offset_bounds-counts-row : goal.offset_bounds-counts-row
+offset_bounds-counts-row c = let m = moves (goal.at.offset_bounds-counts-row c).In-Line in omega (arith, (start (turn (here (goal.at.offset_bounds-counts-row c).In-Line))).well_formed)
+
+pub bounds-counts-row : goal.bounds-counts-row
+bounds-counts-row c = let m = moves (goal.at.bounds-counts-row c).In-Line in let l = lengths (turn (here (goal.at.bounds-counts-row c).In-Line)) in omega arith
+
+pub offset_bounds-bounds-row : goal.offset_bounds-bounds-row
+offset_bounds-bounds-row c = let m = moves (goal.at.offset_bounds-bounds-row c).In-Line in omega (arith, (start (turn (here (goal.at.offset_bounds-bounds-row c).In-Line))).well_formed)
+
+pub bounds-bounds-row : goal.bounds-bounds-row
+bounds-bounds-row c = let m = moves (goal.at.bounds-bounds-row c).In-Line in let l = lengths (turn (here (goal.at.bounds-bounds-row c).In-Line)) in omega arith
+
+pub overflow_add-row : goal.overflow_add-row
+overflow_add-row c = let m = moves (goal.at.overflow_add-row c).In-Line in omega (arith, (start (turn (here (goal.at.overflow_add-row c).In-Line))).well_formed)
+
+pub overflow_add-term : goal.overflow_add-term
+overflow_add-term c = let m = moves (goal.at.overflow_add-term c).In-Line in omega (arith, c.terms_of-term.ensures, (start (turn (here (goal.at.overflow_add-term c).In-Line))).well_formed)
+
+pub overflow_add-at-in-loop-entry : goal.overflow_add-at-in-loop-entry
+overflow_add-at-in-loop-entry c = let m = moves (goal.at.overflow_add-at-in-loop-entry c).In-Line in omega (arith, (start (turn (here (goal.at.overflow_add-at-in-loop-entry c).In-Line))).well_formed)
+
+pub loop-entry-smaller : goal.loop-entry-smaller
+loop-entry-smaller c = let m = moves (goal.at.loop-entry-smaller c).In-Line in omega arith
+
+pub loop-entry-preserved : goal.loop-entry-preserved
+loop-entry-preserved c =
+    let f = here (goal.at.loop-entry-preserved c).In-Line in
+    let q : SFits w64 (found (goal.at.loop-entry-preserved c).In-Line).bound = sfits_of (search rules) in
+    rw (to_z-of_z q, c.first_of.ensures, c.terms_of-term.ensures)
+    (fills-more _ _ _ (good (turn f)) _ _ _ _ (turn f).loop-entry.invariant f.walk_statement.result _ _ (left f) (found (goal.at.loop-entry-preserved c).In-Line) (bytes (goal.at.loop-entry-preserved c).In-Line) (said (goal.at.loop-entry-preserved c).In-Line))
