@@ -1,5 +1,7 @@
-// The steps of a walker (crates/held): each function takes the struct apart and calls a function of the crate walker,
-// by a walk of its own. Assumes nothing.
+// The steps of a walker (crates/held): each function takes the struct apart and calls a function of the crate walker.
+// Assumes nothing.
+#![tactic(auto)]
+
 ghost use Rattle.std.specs.Prelude.{◌≡◌};
 ghost use Rattle.walker.specs.Said.{said_stepped, brief_stepped};
 ghost use Rattle.held_steps.specs.WalkerSteps.{step_of, Nexts};
