@@ -1,6 +1,8 @@
 // One row of a table under an assignment lent as words (01, "Normalising and evaluating"): its entry, the sum of its
 // terms, and what is answered for it. With `all` everything that the words hold is known, and the known words are not
 // looked at. The number of ones is told. Assumes nothing.
+#![tactic(auto)]
+
 ghost use Rattle.std.specs.Prelude.{◌≡◌};
 ghost use Rattle.definitions.specs.Table.{table};
 ghost use Rattle.definitions.specs.Evaluate.{on_place};
