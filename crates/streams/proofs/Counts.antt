@@ -1,40 +1,28 @@
--- Counts of bytes within their buffers: what a read answers, what was read of the input, what is printed.
-use mathlib.Core.Path.{◌≡◌, refl}
-use mathlib.Core.Bool.{Bool, false}
-use mathlib.Core.List.{List}
-use Prim.Native.Nat.{ℕ, ◌-◌, ◌≤◌}
-use native.Mathlib.Omega.{arith}
-use lib.Dec.{T}
-use lib.IntN.{ℤ, pos, negsuc, nat_abs}
-use lib.Signed.{lt_z, non_neg}
-use lib.ListN.{length, take, drop, length-take, length-drop}
-use Rattle.libc.specs.Io.{Moved}
-use Rattle.outputs.specs.declared.Put.{Put}
-use Rattle.outputs.specs.declared.Put.TheVariants.{Done, Full}
-use Rattle.streams.specs.declared.Input.{Input}
-use Rattle.streams.specs.declared.Input.TheVariants.{Bytes, More, Failed}
-use Rattle.streams.specs.Within.{InputWithin, PrintedWithin}
+-- Reads and writes one after the other: what they moved together stands at the front.
+use Rattle.std.proofs.Common.{◌≡◌, ℕ, ◌+◌, ◌-◌, ◌≤◌, List, ◌++◌, Option, length, take, drop, sym, ap, refl, ◌∙◌, subst, arith, length-take-le}
+use Rattle.std.proofs.Math.Seq.{take-add, take-append-add, take-take}
+use Rattle.std.proofs.lemmas.List.{take_rest}
+use Rattle.std.proofs.lemmas.Slice.{take-put_mid}
+use Rattle.std.specs.Io.KnownBytes.{Appends, Consumes}
+use Rattle.std.proofs.KnownBytes.{Appends-trans, Consumes-trans}
+use borrow.Rule.Slice.PartMut.{put_mid}
 
--- a part from n on
-pub rest-length : (l : List ℕ) (n : ℕ) → length (take (length l - n) (drop n l)) ≡ length l - n
-rest-length l n = rw (length-take (length l - n) (drop n l), length-drop n l) (omega arith)
+-- a write of n bytes of the rest, behind d bytes
+pub wrote_more : (a b c : Option (List ℕ)) (text : List ℕ) (d n : ℕ) → Appends a b (take d text)
+    → Appends b c (take n (take (length text - d) (drop d text))) → Appends a c (take (d + n) text)
+wrote_more a b c text d n p q =
+    subst (Appends a c) (sym (take-add d n text)) (Appends-trans a b c _ _ p (subst (λ l. Appends b c (take n l)) (take_rest text d) q))
 
--- what a read answers that did not fail
-pub moved-count : (n : ℕ) (z : ℤ) → Moved n z → lt_z z (pos 0) ≡ false → T (non_neg z) × (nat_abs z ≤ n)
-moved-count n (pos k) m h = (tt, m)
-moved-count n (negsuc k) m h = let z : ◌≡◌ {A = ℕ} 0 1 = cc in absurd (omega arith)
+front_more : (xs ys : List ℕ) (d k n : ℕ) → d ≤ length xs → n ≤ length ys
+    → take (d + n) (put_mid d k xs ys) ≡ take d xs ++ take n ys
+front_more xs ys d k n within fits =
+    sym (take-take (d + n) (d + length ys) (put_mid d k xs ys) (omega arith))
+    ∙ ap (take (d + n)) (take-put_mid d k xs ys (d + length ys) refl within)
+    ∙ ap (λ i. take (i + n) (take d xs ++ ys)) (sym (length-take-le d xs within))
+    ∙ take-append-add (take d xs) ys n
 
--- a count of the input lies within a longer buffer too
-pub within-longer : (r : Input) {n room : ℕ} → InputWithin r n → n ≤ room → InputWithin r room
-within-longer (Bytes k) w h = omega (arith, w, h)
-within-longer More w h = tt
-within-longer Failed w h = tt
-
--- where nothing is printed, false may be answered
-pub unprinted : (put : Put) (room : ℕ) → PrintedWithin put room false
-unprinted (Done n) room = λ e. let z : ◌≡◌ {A = ℕ} 0 1 = cc in absurd (omega arith)
-unprinted Full room = refl
-
--- where what was put lies within the output, anything may
-pub printed : (put : Put) {n room : ℕ} (answer : Bool) → put ≡ Done n → n ≤ room → PrintedWithin put room answer
-printed put answer e h = rw e (λ t. h)
+-- a read of n bytes into the rest, behind d bytes
+pub read_more : (a b c : Option (List ℕ)) (xs ys : List ℕ) (d k n : ℕ) → d ≤ length xs → n ≤ length ys
+    → Consumes a b (take d xs) → Consumes b c (take n ys) → Consumes a c (take (d + n) (put_mid d k xs ys))
+read_more a b c xs ys d k n within fits p q =
+    subst (Consumes a c) (sym (front_more xs ys d k n within fits)) (Consumes-trans a b c _ _ p q)

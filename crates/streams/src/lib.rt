@@ -1,89 +1,107 @@
-// Standard input into a lent buffer, text to standard output and standard error: what programs share. No
-// contract can say which bytes are read or written; what is answered depends on the outside world, and lies within what
-// was lent. Each function ends, given that each read and write returns.
-ghost use Rattle.std.specs.Prelude.{length};
+// Standard input into a lent buffer, text to standard output and standard error: what programs share. Reader and writer
+// are the caller's; where their bytes are known, as in memory, the contracts say which of them are read or written. What
+// the outside world gives or takes no contract can say. Each function ends, given that each read and write returns.
+#![tactic(auto)]
+
+ghost use Rattle.std.specs.Prelude.{◌≡◌, length, IfOk, OnErr, OnOk};
+ghost use Rattle.std.specs.Io.KnownBytes.{Appends, Keeps};
+ghost use Rattle.streams.specs.Streamed.{IsFilled, IsBehind, IsInput, AppendsFront, ConsumesFront, lies_within, put_text};
 ghost use Rattle.streams.specs.Within.{InputWithin, PrintedWithin};
 
-use libc::{STDERR_FILENO, STDIN_FILENO, STDOUT_FILENO};
 use outputs::Put;
+use std::io;
+use std::io::{ErrorKind, Read, Write};
 
-// The whole input is that many bytes at the front of the buffer; or it has more than the buffer holds; or a read
-// failed.
-#[derive(Drop)]
+// The whole input is that many bytes at the front of the buffer; or it has more than the buffer holds.
+#[derive(Clone, Copy)]
 pub enum Input {
     Bytes(usize),
     More,
-    Failed,
 }
 
-// Reads until the buffer is full or the input ends.
-fn fill(buffer: &mut [u8]) -> Input
-    ensures { InputWithin result (length buffer.new) }
+// Reads until the buffer is full or the input ends: how many bytes then stand at its front.
+fn fill<R: Read>(reader: &mut R, buffer: &mut [u8]) -> io::Result<usize>
+    ensures bytes { IfOk result (IsFilled (R.remaining reader.old) (R.remaining reader.new) buffer.new) }
+    ensures err { OnErr result (ConsumesFront (R.remaining reader.old) (R.remaining reader.new) buffer.new) }
 {
     let mut done: usize = 0;
     while done < buffer.len() {
-        let got = libc::read(STDIN_FILENO, &mut buffer[done..]);
-        if got < 0 {
-            return Input::Failed;
+        match reader.read(&mut buffer[done..]) {
+            Ok(0) => return Ok(done),
+            Ok(n) => done += n,
+            Err(error) => return Err(error),
         }
-        let n = got as usize;
-        if n == 0 {
-            return Input::Bytes(done);
-        }
-        done += n;
     }
-    Input::Bytes(done)
+    Ok(done)
 }
 
 // The input behind a buffer that is full: whether a byte follows.
-fn behind(full: usize) -> Input
-    ensures { InputWithin result full }
+fn behind<R: Read>(reader: &mut R, full: usize) -> io::Result<Input>
+    ensures within { IfOk result (λ input. InputWithin input full) }
+    ensures bytes { IfOk result (IsBehind (R.remaining reader.old) full) }
+    ensures err { OnErr result (Keeps (R.remaining reader.old) (R.remaining reader.new)) }
 {
     let mut one = [0u8; 1];
-    let Input::Bytes(more) = fill(&mut one) else {
-        return Input::Failed;
-    };
+    let more = reader.read(&mut one)?;
     if more > 0 {
-        return Input::More;
+        return Ok(Input::More);
     }
-    Input::Bytes(full)
+    Ok(Input::Bytes(full))
 }
 
-// Standard input.
-pub fn read_input(buffer: &mut [u8]) -> Input
-    ensures { InputWithin result (length buffer.new) }
+// The whole input. After an error, what was read before it stands at the front of the buffer.
+pub fn read_input<R: Read>(reader: &mut R, buffer: &mut [u8]) -> io::Result<Input>
+    ensures within { IfOk result (λ input. InputWithin input (length buffer.new)) }
+    ensures bytes { IfOk result (IsInput (R.remaining reader.old) buffer.new) }
+    ensures err { OnErr result (ConsumesFront (R.remaining reader.old) (R.remaining reader.new) buffer.new) }
 {
-    let Input::Bytes(n) = fill(buffer) else {
-        return Input::Failed;
-    };
+    let n = fill(reader, buffer)?;
     if n < buffer.len() {
-        return Input::Bytes(n);
+        return Ok(Input::Bytes(n));
     }
-    behind(n)
+    behind(reader, n)
 }
 
-// To standard output: whether all of it was written.
-pub fn print(text: &[u8]) -> bool {
-    io::write_all(STDOUT_FILENO, text)
+// All of the text, to standard output. An error leaves some of it written, and not all.
+pub fn print<W: Write>(writer: &mut W, text: &[u8]) -> io::Result<()>
+    ensures ok { OnOk result (Appends (W.contents writer.old) (W.contents writer.new) text.now) }
+    ensures err { OnErr result (AppendsFront (W.contents writer.old) (W.contents writer.new) text.now) }
+{
+    let mut written: usize = 0;
+    while written < text.len() {
+        let taken = writer.write(&text[written..])?;
+        if taken == 0 {
+            return Err(io::Error::from(ErrorKind::WriteZero));
+        }
+        written += taken;
+    }
+    Ok(())
 }
 
 // To standard error.
-pub fn say(text: &[u8]) {
-    io::write_all(STDERR_FILENO, text);
+pub fn say<W: Write>(writer: &mut W, text: &[u8]) -> io::Result<()>
+    ensures ok { OnOk result (Appends (W.contents writer.old) (W.contents writer.new) text.now) }
+    ensures err { OnErr result (AppendsFront (W.contents writer.old) (W.contents writer.new) text.now) }
+{
+    print(writer, text)
 }
 
-// What was put into `out`, to standard output: whether all of it was written. Where nothing was put, or more than `out`
-// holds, nothing is.
-pub fn print_put(put: Put, out: &[u8]) -> bool
-    ensures { PrintedWithin put (length out.now) result }
+// What was put into `out`, to standard output: whether it was written. Where nothing was put, or more than `out` holds,
+// nothing is, and no error comes.
+pub fn print_put<W: Write>(writer: &mut W, put: Put, out: &[u8]) -> io::Result<bool>
+    ensures within { IfOk result (PrintedWithin put (length out.now)) }
+    ensures answer { IfOk result (λ printed. printed ≡ lies_within put (length out.now)) }
+    ensures ok { OnOk result (Appends (W.contents writer.old) (W.contents writer.new) (put_text put out.now)) }
+    ensures err { OnErr result (AppendsFront (W.contents writer.old) (W.contents writer.new) (put_text put out.now)) }
 {
     match put {
         Put::Done(n) => {
             if n > out.len() {
-                return false;
+                return Ok(false);
             }
-            print(&out[..n])
+            print(writer, &out[..n])?;
+            Ok(true)
         }
-        Put::Full => false,
+        Put::Full => Ok(false),
     }
 }
