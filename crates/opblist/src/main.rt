@@ -3,6 +3,8 @@
 // printed. What cannot be read or printed is said on standard error.
 use definitions::Length;
 use outputs::Put;
+use std::io;
+use std::io::Write;
 use streams::Input;
 
 // "first index 1, up to 4,096 rows and 8,192 terms"
@@ -30,36 +32,43 @@ fn list(file: &[u8], out: &mut [u8]) -> Put {
 }
 
 // What was put into `out`, or why it is not printed.
-fn show_put(put: Put, out: &[u8]) {
+fn show_put<O: Write, E: Write>(
+    output: &mut O,
+    errors: &mut E,
+    put: Put,
+    out: &[u8],
+) -> io::Result<()> {
     match put {
-        Put::Done(_) => {
-            if !streams::print_put(put, out) {
-                streams::say(b"opblist: standard output takes no more\n");
-            }
-        }
-        Put::Full => streams::say(b"opblist: the lines do not fit the output buffer\n"),
+        Put::Done(_) => match streams::print_put(output, put, out) {
+            Ok(true) => Ok(()),
+            _ => streams::say(errors, b"opblist: standard output takes no more\n"),
+        },
+        Put::Full => streams::say(errors, b"opblist: the lines do not fit the output buffer\n"),
     }
 }
 
 // The output suffices for every file: a head of at most 48 bytes, 4,096 rows of at most 25, 8,192 terms of at most 34.
-fn show(file: &[u8]) {
+fn show<O: Write, E: Write>(output: &mut O, errors: &mut E, file: &[u8]) -> io::Result<()> {
     let mut out = [0u8; 380976];
     let put = list(file, &mut out);
-    show_put(put, &out);
+    show_put(output, errors, put, &out)
 }
 
 // "more input: refusal 1"
-fn refuse() {
+fn refuse<O: Write, E: Write>(output: &mut O, errors: &mut E) -> io::Result<()> {
     let mut out = [0u8; 12];
     let put = refusals::list_refusal(1, 0, &mut out);
-    show_put(put, &out);
+    show_put(output, errors, put, &out)
 }
 
-fn main() {
+// Ends with an error where standard error takes no more.
+fn main(rt: HostRuntime) -> io::Result<()> {
+    let mut output = rt.stdout();
+    let mut errors = rt.stderr();
     let mut input = [0; 65536];
-    match streams::read_input(&mut input) {
-        Input::Bytes(n) => show(&input[..n]),
-        Input::More => refuse(),
-        Input::Failed => streams::say(b"opblist: standard input cannot be read\n"),
+    match streams::read_input(&mut rt.stdin(), &mut input) {
+        Ok(Input::Bytes(n)) => show(&mut output, &mut errors, &input[..n]),
+        Ok(Input::More) => refuse(&mut output, &mut errors),
+        Err(_) => streams::say(&mut errors, b"opblist: standard input cannot be read\n"),
     }
 }

@@ -4,6 +4,8 @@
 // on standard error.
 use definitions::{Counted, Entry, Length, Options, Refusal, Totals};
 use outputs::Put;
+use std::io;
+use std::io::Write;
 use streams::Input;
 use walker::Stepped;
 
@@ -13,28 +15,40 @@ const ROWS: usize = 4096;
 const TERMS: usize = 8192;
 
 // Whether all of it was printed; where not, standard error says so.
-fn told(printed: bool) -> bool {
+fn told<E: Write>(errors: &mut E, printed: bool) -> io::Result<bool> {
     if !printed {
-        streams::say(b"opbwalk: standard output takes no more\n");
+        streams::say(errors, b"opbwalk: standard output takes no more\n")?;
     }
-    printed
+    Ok(printed)
 }
 
 // What was put into `out`, or why it is not printed.
-fn show_put(put: Put, out: &[u8]) -> bool {
+fn show_put<O: Write, E: Write>(
+    output: &mut O,
+    errors: &mut E,
+    put: Put,
+    out: &[u8],
+) -> io::Result<bool> {
     match put {
-        Put::Done(_) => told(streams::print_put(put, out)),
+        Put::Done(_) => {
+            let printed = matches!(streams::print_put(output, put, out), Ok(true));
+            told(errors, printed)
+        }
         Put::Full => {
-            streams::say(b"opbwalk: the line does not fit the output buffer\n");
-            false
+            streams::say(
+                errors,
+                b"opbwalk: the line does not fit the output buffer\n",
+            )?;
+            Ok(false)
         }
     }
 }
 
-fn refuse(refusal: Refusal) {
+fn refuse<O: Write, E: Write>(output: &mut O, errors: &mut E, refusal: Refusal) -> io::Result<()> {
     let mut out = [0u8; 33];
     let put = refusals::list_refusal(refusal.number, refusal.place, &mut out);
-    show_put(put, &out);
+    show_put(output, errors, put, &out)?;
+    Ok(())
 }
 
 // "The first line is rows, terms, first index."
@@ -54,10 +68,14 @@ fn put_head(rows: u64, terms: u64, out: &mut [u8]) -> Put {
     outputs::print_text(b"\t1\n", out, d)
 }
 
-fn print_head(found: Totals) -> bool {
+fn print_head<O: Write, E: Write>(
+    output: &mut O,
+    errors: &mut E,
+    found: Totals,
+) -> io::Result<bool> {
     let mut out = [0u8; 48];
     let put = put_head(found.rows as u64, found.terms as u64, &mut out);
-    show_put(put, &out)
+    show_put(output, errors, put, &out)
 }
 
 // The head of a table of one row: `opb`, 1, so many terms, 1, parted by tabs, and an LF.
@@ -66,7 +84,14 @@ fn head_length(terms: usize) -> usize {
 }
 
 // The line of one row, whose terms stand at the front of the columns: that of a table of one row, without the head.
-fn print_row(entry: Entry, weights: &[i64], literals: &[u32], out: &mut [u8]) -> bool {
+fn print_row<O: Write, E: Write>(
+    output: &mut O,
+    errors: &mut E,
+    entry: Entry,
+    weights: &[i64],
+    literals: &[u32],
+    out: &mut [u8],
+) -> io::Result<bool> {
     let kinds = [entry.kind; 1];
     let firsts = [0usize; 1];
     let counts = [entry.count; 1];
@@ -75,103 +100,128 @@ fn print_row(entry: Entry, weights: &[i64], literals: &[u32], out: &mut [u8]) ->
         &kinds, &firsts, &counts, &bounds, weights, literals, 1, 1, out,
     ) {
         Length::Refused(_) => {
-            streams::say(b"opbwalk: the line does not fit the output buffer\n");
-            false
+            streams::say(
+                errors,
+                b"opbwalk: the line does not fit the output buffer\n",
+            )?;
+            Ok(false)
         }
-        Length::Is(n) => print_part(
-            out,
-            head_length(columns::terms_of(entry.kind, entry.count)),
-            n,
-        ),
+        Length::Is(n) => {
+            let start = head_length(columns::terms_of(entry.kind, entry.count));
+            print_part(output, errors, out, start, n)
+        }
     }
 }
 
 // The bytes from `start` to `end`, where they are that.
-fn print_part(out: &[u8], start: usize, end: usize) -> bool {
+fn print_part<O: Write, E: Write>(
+    output: &mut O,
+    errors: &mut E,
+    out: &[u8],
+    start: usize,
+    end: usize,
+) -> io::Result<bool> {
     if start <= end && end <= out.len() {
-        return told(streams::print(&out[start..end]));
+        let printed = streams::print(output, &out[start..end]).is_ok();
+        return told(errors, printed);
     }
-    streams::say(b"opbwalk: a line without its head\n");
-    false
+    streams::say(errors, b"opbwalk: a line without its head\n")?;
+    Ok(false)
 }
 
 // One statement, as the walk met it at the offset.
-fn print_statement(
+fn print_statement<O: Write, E: Write>(
+    output: &mut O,
+    errors: &mut E,
     file: &[u8],
     at: usize,
     entry: Entry,
     weights: &mut [i64],
     literals: &mut [u32],
     out: &mut [u8],
-) -> bool {
+) -> io::Result<bool> {
     let options = Options { first: 1 };
     match fills::fill_at(file, options, at, weights, literals) {
         Length::Refused(_) => {
-            streams::say(b"opbwalk: the terms do not fit their columns\n");
-            false
+            streams::say(errors, b"opbwalk: the terms do not fit their columns\n")?;
+            Ok(false)
         }
-        Length::Is(_) => print_row(entry, weights, literals, out),
+        Length::Is(_) => print_row(output, errors, entry, weights, literals, out),
     }
 }
 
 // The second walk, over a file that the first has accepted.
-fn print_statements(file: &[u8], weights: &mut [i64], literals: &mut [u32], out: &mut [u8]) {
+fn print_statements<O: Write, E: Write>(
+    output: &mut O,
+    errors: &mut E,
+    file: &[u8],
+    weights: &mut [i64],
+    literals: &mut [u32],
+    out: &mut [u8],
+) -> io::Result<()> {
     let options = Options { first: 1 };
     let mut at: usize = 0;
     loop {
         let Stepped::Line { entry, next } = walker::step_at(file, options, at) else {
-            return;
+            return Ok(());
         };
-        if !print_statement(file, at, entry, weights, literals, out) {
-            return;
+        if !print_statement(output, errors, file, at, entry, weights, literals, out)? {
+            return Ok(());
         }
         at = next;
     }
 }
 
 // Columns and output for one statement; it may be as long as the file.
-fn list(file: &[u8]) {
+fn list<O: Write, E: Write>(output: &mut O, errors: &mut E, file: &[u8]) -> io::Result<()> {
     let mut weights = [0i64; 8192];
     let mut literals = [0u32; 8192];
     let mut out = [0u8; 380976];
-    print_statements(file, &mut weights, &mut literals, &mut out);
+    print_statements(output, errors, file, &mut weights, &mut literals, &mut out)
 }
 
 // "9, then 10, once the whole file has read well"
-fn show(file: &[u8]) {
+fn show<O: Write, E: Write>(output: &mut O, errors: &mut E, file: &[u8]) -> io::Result<()> {
     let options = Options { first: 1 };
     match tallies::count_steps(file, options) {
-        Counted::Refused(refusal) => refuse(refusal),
+        Counted::Refused(refusal) => refuse(output, errors, refusal),
         Counted::Table(found) => {
             if found.rows > ROWS {
-                refuse(Refusal {
+                let refusal = Refusal {
                     number: 9,
                     place: found.rows as u64,
-                });
-                return;
+                };
+                return refuse(output, errors, refusal);
             }
             if found.terms > TERMS {
-                refuse(Refusal {
+                let refusal = Refusal {
                     number: 10,
                     place: found.terms as u64,
-                });
-                return;
+                };
+                return refuse(output, errors, refusal);
             }
-            if print_head(found) {
-                list(file);
+            if print_head(output, errors, found)? {
+                list(output, errors, file)?;
             }
+            Ok(())
         }
     }
 }
 
-fn main() {
+// Ends with an error where standard error takes no more.
+fn main(rt: HostRuntime) -> io::Result<()> {
+    let mut output = rt.stdout();
+    let mut errors = rt.stderr();
     let mut input = [0; 65536];
-    match streams::read_input(&mut input) {
-        Input::Bytes(n) => show(&input[..n]),
-        Input::More => refuse(Refusal {
-            number: 1,
-            place: 0,
-        }),
-        Input::Failed => streams::say(b"opbwalk: standard input cannot be read\n"),
+    match streams::read_input(&mut rt.stdin(), &mut input) {
+        Ok(Input::Bytes(n)) => show(&mut output, &mut errors, &input[..n]),
+        Ok(Input::More) => {
+            let refusal = Refusal {
+                number: 1,
+                place: 0,
+            };
+            refuse(&mut output, &mut errors, refusal)
+        }
+        Err(_) => streams::say(&mut errors, b"opbwalk: standard input cannot be read\n"),
     }
 }

@@ -19,9 +19,11 @@
 // vectors_files, w and e by vectors_tables, which reads the table of n too and hands it to vectors_normalising. A line is
 // read by vectors_words and vectors_columns, an answer printed by vectors_shown.
 //
-// Assumes nothing but what libc says of itself.
+// Where a write fails, the program ends with its error.
 ghost use Rattle.std.specs.Prelude.{◌≡◌, ◌<◌, ◌≤◌, length};
 
+use std::io;
+use std::io::Write;
 use streams::Input;
 
 // The place behind the line that begins at `at`.
@@ -40,42 +42,43 @@ fn line_end(s: &[u8], at: usize) -> usize
 }
 
 // Whether the line is a case, which is then run.
-fn is_case(line: &[u8]) -> bool {
+fn is_case<W: Write>(output: &mut W, line: &[u8]) -> io::Result<bool> {
     if line.len() < 2 {
-        return false;
+        return Ok(false);
     }
     if line[1] != b' ' {
-        return false;
+        return Ok(false);
     }
     let command = line[0];
     match command {
-        b's' => vectors_codes::symbol_case(line),
-        b't' => vectors_texts::text_case(line),
-        b'p' => vectors_texts::print_case(line),
-        b'v' => vectors_blocks::block_case(line),
-        b'r' => vectors_files::read_case(line),
-        _ => vectors_tables::table_case(command, line),
+        b's' => vectors_codes::symbol_case(output, line),
+        b't' => vectors_texts::text_case(output, line),
+        b'p' => vectors_texts::print_case(output, line),
+        b'v' => vectors_blocks::block_case(output, line),
+        b'r' => vectors_files::read_case(output, line),
+        _ => vectors_tables::table_case(output, command, line),
     }
 }
 
-fn run_case(line: &[u8], number: usize) {
-    vectors_shown::say(b"=");
-    if !is_case(line) {
-        vectors_shown::say(b" bad case");
-        vectors_shown::say_size(number);
+fn run_case<W: Write>(output: &mut W, line: &[u8], number: usize) -> io::Result<()> {
+    vectors_shown::say(output, b"=")?;
+    if !is_case(output, line)? {
+        vectors_shown::say(output, b" bad case")?;
+        vectors_shown::say_size(output, number)?;
     }
-    vectors_shown::say(b"\n");
+    vectors_shown::say(output, b"\n")
 }
 
-fn run_cases(s: &[u8]) {
+fn run_cases<W: Write>(output: &mut W, s: &[u8]) -> io::Result<()> {
     let mut at: usize = 0;
     let mut number: usize = 0;
     while at < s.len() {
         let end = line_end(s, at);
         number += 1;
-        run_case(&s[at..end], number);
+        run_case(output, &s[at..end], number)?;
         at = end;
     }
+    Ok(())
 }
 
 // Room for the cases. Callers know its length alone.
@@ -85,11 +88,12 @@ fn space() -> [u8; 131072]
     [0; 131072]
 }
 
-fn main() {
+fn main(rt: HostRuntime) -> io::Result<()> {
+    let mut errors = rt.stderr();
     let mut input = space();
-    match streams::read_input(&mut input) {
-        Input::Bytes(n) => run_cases(&input[..n]),
-        Input::More => streams::say(b"vectors: more than 131,072 bytes\n"),
-        Input::Failed => streams::say(b"vectors: standard input cannot be read\n"),
+    match streams::read_input(&mut rt.stdin(), &mut input) {
+        Ok(Input::Bytes(n)) => run_cases(&mut rt.stdout(), &input[..n]),
+        Ok(Input::More) => streams::say(&mut errors, b"vectors: more than 131,072 bytes\n"),
+        Err(_) => streams::say(&mut errors, b"vectors: standard input cannot be read\n"),
     }
 }

@@ -1,6 +1,8 @@
 // A part of the program `vectors`: a number as a file number, an index, a code and a byte. Assumes nothing.
 use definitions::{Beginning, Class};
 use literals::{FileNumber, FileNumberRead, Lit, LitRead, Var, VarRead};
+use std::io;
+use std::io::Write;
 use vectors_shown::{say, say_code, say_whether};
 
 fn class_mark(c: Class) -> u8 {
@@ -29,83 +31,83 @@ fn beginning_mark(p: Beginning) -> u8 {
     }
 }
 
-fn show_byte(b: u8) {
+fn show_byte<W: Write>(output: &mut W, b: u8) -> io::Result<()> {
     let marks = [
         class_mark(symbols::class_of(b)),
         beginning_mark(symbols::beginning_of(b)),
     ];
-    say(b" ");
-    say(&marks);
+    say(output, b" ")?;
+    say(output, &marks)
 }
 
-fn show_number(r: FileNumberRead) {
+fn show_number<W: Write>(output: &mut W, r: FileNumberRead) -> io::Result<()> {
     match r {
-        FileNumberRead::Is(n) => say_code(n.number()),
-        FileNumberRead::OutOfRange => say(b" refused"),
+        FileNumberRead::Is(n) => say_code(output, n.number()),
+        FileNumberRead::OutOfRange => say(output, b" refused"),
     }
 }
 
-fn show_variable(r: VarRead) {
+fn show_variable<W: Write>(output: &mut W, r: VarRead) -> io::Result<()> {
     match r {
-        VarRead::Is(v) => say_code(v.index()),
-        VarRead::OutOfRange => say(b" refused"),
+        VarRead::Is(v) => say_code(output, v.index()),
+        VarRead::OutOfRange => say(output, b" refused"),
     }
 }
 
-fn show_code(r: LitRead) {
+fn show_code<W: Write>(output: &mut W, r: LitRead) -> io::Result<()> {
     match r {
-        LitRead::Is(l) => say_code(l.code()),
-        LitRead::OutOfRange => say(b" refused"),
+        LitRead::Is(l) => say_code(output, l.code()),
+        LitRead::OutOfRange => say(output, b" refused"),
     }
 }
 
 // A number of a file.
-fn show_file(size: u64, first: u32) {
+fn show_file<W: Write>(output: &mut W, size: u64, first: u32) -> io::Result<()> {
     let r = FileNumber::of_digits(size);
-    show_number(r);
+    show_number(output, r)?;
     let FileNumberRead::Is(number) = r else {
-        return;
+        return Ok(());
     };
-    show_variable(Var::of_file(number, first));
+    show_variable(output, Var::of_file(number, first))
 }
 
 // An index.
-fn show_index(index: u32, first: u32) {
-    show_number(FileNumber::of(Var::of_index(index), first));
-    show_code(Var::of_index(index).pos_lit());
-    show_code(Var::of_index(index).neg_lit());
-    show_code(Var::of_index(index).lit(true));
+fn show_index<W: Write>(output: &mut W, index: u32, first: u32) -> io::Result<()> {
+    show_number(output, FileNumber::of(Var::of_index(index), first))?;
+    show_code(output, Var::of_index(index).pos_lit())?;
+    show_code(output, Var::of_index(index).neg_lit())?;
+    show_code(output, Var::of_index(index).lit(true))
 }
 
 // A code.
-fn show_literal(l: Lit) {
-    say_whether(l.is_neg());
-    say_whether(l.is_pos());
-    say_code(l.var().index());
-    say_code(l.negated().code());
+fn show_literal<W: Write>(output: &mut W, l: Lit) -> io::Result<()> {
+    say_whether(output, l.is_neg())?;
+    say_whether(output, l.is_pos())?;
+    say_code(output, l.var().index())?;
+    say_code(output, l.negated().code())
 }
 
 // What is no index and no code, or no byte, is shown up to there.
-fn show(size: u64, first: u32) {
-    show_file(size, first);
+fn show<W: Write>(output: &mut W, size: u64, first: u32) -> io::Result<()> {
+    show_file(output, size, first)?;
     if size > 4_294_967_295 {
-        return;
+        return Ok(());
     }
-    show_index(size as u32, first);
-    show_literal(Lit::of_code(size as u32));
+    show_index(output, size as u32, first)?;
+    show_literal(output, Lit::of_code(size as u32))?;
     if size > 255 {
-        return;
+        return Ok(());
     }
-    show_byte(size as u8);
+    show_byte(output, size as u8)
 }
 
 // Whether the line is such a case, which is then run.
-pub fn symbol_case(line: &[u8]) -> bool {
+pub fn symbol_case<W: Write>(output: &mut W, line: &[u8]) -> io::Result<bool> {
     let n = vectors_words::natural_at(line, 2, 18_446_744_073_709_551_615);
     let first = vectors_words::natural_at(line, n.next, 4_294_967_295);
     if first.next != line.len() {
-        return false;
+        return Ok(false);
     }
-    show(n.value, first.value as u32);
-    true
+    show(output, n.value, first.value as u32)?;
+    Ok(true)
 }

@@ -1,11 +1,23 @@
 // A part of the program `vectors`: a file, read into columns. They are arrays, of which as many entries are lent as the
 // case says. Assumes nothing.
 use definitions::Options;
+use std::io;
+use std::io::Write;
 use vectors_columns::ROOM;
 use vectors_shown::{say_counted, say_table};
 
 // Into columns of so many entries, which are 7 before.
-fn read(file: &[u8], first: u32, k: u8, f: u8, n: u8, b: u8, w: u8, l: u8) {
+fn read<W: Write>(
+    output: &mut W,
+    file: &[u8],
+    first: u32,
+    k: u8,
+    f: u8,
+    n: u8,
+    b: u8,
+    w: u8,
+    l: u8,
+) -> io::Result<()> {
     let mut kinds = [7u8; 256];
     let mut firsts = [7usize; 256];
     let mut counts = [7usize; 256];
@@ -28,29 +40,31 @@ fn read(file: &[u8], first: u32, k: u8, f: u8, n: u8, b: u8, w: u8, l: u8) {
         lentweights,
         lentliterals,
     );
-    say_counted(answer);
+    say_counted(output, answer)?;
     say_table(
+        output,
         lentkinds,
         lentfirsts,
         lentcounts,
         lentbounds,
         lentweights,
         lentliterals,
-    );
+    )
 }
 
 // Whether the line is such a case, which is then run.
-pub fn read_case(line: &[u8]) -> bool {
+pub fn read_case<W: Write>(output: &mut W, line: &[u8]) -> io::Result<bool> {
     let mut sizes = [0u8; 6];
     let mut file = [0u8; ROOM];
     let s = vectors_columns::bytes_at(line, 2, &mut sizes);
     let first = vectors_words::natural_at(line, s.next, 4_294_967_295);
     let f = vectors_columns::bytes_at(line, first.next, &mut file);
     if f.next != line.len() {
-        return false;
+        return Ok(false);
     }
     let n = f.count;
     read(
+        output,
         &file[0..n],
         first.value as u32,
         sizes[0],
@@ -59,6 +73,6 @@ pub fn read_case(line: &[u8]) -> bool {
         sizes[3],
         sizes[4],
         sizes[5],
-    );
-    true
+    )?;
+    Ok(true)
 }

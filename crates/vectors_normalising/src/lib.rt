@@ -1,9 +1,12 @@
 // A part of the program `vectors`: a table, normalised. Assumes nothing.
+use std::io;
+use std::io::Write;
 use vectors_shown::{say_counted, say_table};
 
 // Into columns of unequal length, whose entries are 9 before: four kinds, bounds and weights, three counts, so many
 // firsts and literals.
-fn normalise(
+fn normalise<W: Write>(
+    output: &mut W,
     rows: usize,
     terms: usize,
     kinds: &[u8],
@@ -12,7 +15,7 @@ fn normalise(
     bounds: &[i64],
     weights: &[i64],
     literals: &[u32],
-) {
+) -> io::Result<()> {
     let mut outkinds = [9u8; 4];
     let mut outfirsts = [9usize; 4];
     let mut outcounts = [9usize; 3];
@@ -20,10 +23,10 @@ fn normalise(
     let mut outweights = [9i64; 4];
     let mut outliterals = [9u32; 5];
     if rows > 4 {
-        return;
+        return Ok(());
     }
     if terms > 5 {
-        return;
+        return Ok(());
     }
     let lentfirsts = &mut outfirsts[0..rows];
     let lentliterals = &mut outliterals[0..terms];
@@ -41,19 +44,21 @@ fn normalise(
         &mut outweights,
         lentliterals,
     );
-    say_counted(answer);
+    say_counted(output, answer)?;
     say_table(
+        output,
         &outkinds,
         lentfirsts,
         &outcounts,
         &outbounds,
         &outweights,
         lentliterals,
-    );
+    )
 }
 
 // Whether the rest of the line is that of such a case, which is then run.
-pub fn normal_case(
+pub fn normal_case<W: Write>(
+    output: &mut W,
     line: &[u8],
     at: usize,
     kinds: &[u8],
@@ -62,13 +67,14 @@ pub fn normal_case(
     bounds: &[i64],
     weights: &[i64],
     literals: &[u32],
-) -> bool {
+) -> io::Result<bool> {
     let rows = vectors_words::natural_at(line, at, 4);
     let terms = vectors_words::natural_at(line, rows.next, 5);
     if terms.next != line.len() {
-        return false;
+        return Ok(false);
     }
     normalise(
+        output,
         rows.value as usize,
         terms.value as usize,
         kinds,
@@ -77,6 +83,6 @@ pub fn normal_case(
         bounds,
         weights,
         literals,
-    );
-    true
+    )?;
+    Ok(true)
 }

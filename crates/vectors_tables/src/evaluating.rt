@@ -1,26 +1,29 @@
 // A row of a table, evaluated. Assumes nothing.
+use std::io;
+use std::io::Write;
 use vectors_columns::WORDS;
 use vectors_shown::{say, say_count, say_integer, say_refusal, say_whether};
 use verdicts::Evaluated;
 
-fn show_evaluated(answer: Evaluated) {
+fn show_evaluated<W: Write>(output: &mut W, answer: Evaluated) -> io::Result<()> {
     match answer {
-        Evaluated::Refused(why) => say_refusal(why.number, why.place),
+        Evaluated::Refused(why) => say_refusal(output, why.number, why.place),
         Evaluated::Constraint { sum, holds, ones } => {
-            say(b" sum");
-            say_integer(sum);
-            say_whether(holds);
-            say_count(ones);
+            say(output, b" sum")?;
+            say_integer(output, sum)?;
+            say_whether(output, holds)?;
+            say_count(output, ones)
         }
         Evaluated::Objective { value, ones } => {
-            say(b" value");
-            say_integer(value);
-            say_count(ones);
+            say(output, b" value")?;
+            say_integer(output, value)?;
+            say_count(output, ones)
         }
     }
 }
 
-fn evaluate(
+fn evaluate<W: Write>(
+    output: &mut W,
     row: usize,
     values: &[u64],
     known: &[u64],
@@ -30,21 +33,31 @@ fn evaluate(
     bounds: &[i64],
     weights: &[i64],
     literals: &[u32],
-) {
-    show_evaluated(evaluator::evaluate(
-        kinds, firsts, counts, bounds, weights, literals, row, values,
-    ));
-    say(b" |");
-    show_evaluated(evaluator::evaluate_known(
-        kinds, firsts, counts, bounds, weights, literals, row, values, known,
-    ));
-    say(b" |");
-    show_evaluated(evaluator::judge(
-        kinds, firsts, counts, bounds, weights, literals, row, values, known,
-    ));
+) -> io::Result<()> {
+    show_evaluated(
+        output,
+        evaluator::evaluate(
+            kinds, firsts, counts, bounds, weights, literals, row, values,
+        ),
+    )?;
+    say(output, b" |")?;
+    show_evaluated(
+        output,
+        evaluator::evaluate_known(
+            kinds, firsts, counts, bounds, weights, literals, row, values, known,
+        ),
+    )?;
+    say(output, b" |")?;
+    show_evaluated(
+        output,
+        evaluator::judge(
+            kinds, firsts, counts, bounds, weights, literals, row, values, known,
+        ),
+    )
 }
 
-pub(crate) fn evaluate_case(
+pub(crate) fn evaluate_case<W: Write>(
+    output: &mut W,
     line: &[u8],
     at: usize,
     kinds: &[u8],
@@ -53,18 +66,19 @@ pub(crate) fn evaluate_case(
     bounds: &[i64],
     weights: &[i64],
     literals: &[u32],
-) -> bool {
+) -> io::Result<bool> {
     let mut values = [0u64; WORDS];
     let mut known = [0u64; WORDS];
     let row = vectors_words::natural_at(line, at, 18_446_744_073_709_551_615);
     let v = vectors_columns::words_at(line, row.next, &mut values);
     let k = vectors_columns::words_at(line, v.next, &mut known);
     if k.next != line.len() {
-        return false;
+        return Ok(false);
     }
     let held = v.count;
     let told = k.count;
     evaluate(
+        output,
         row.value as usize,
         &values[0..held],
         &known[0..told],
@@ -74,6 +88,6 @@ pub(crate) fn evaluate_case(
         bounds,
         weights,
         literals,
-    );
-    true
+    )?;
+    Ok(true)
 }

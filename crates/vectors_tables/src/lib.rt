@@ -3,9 +3,12 @@
 mod evaluating;
 mod writing;
 
+use std::io;
+use std::io::Write;
 use vectors_columns::ROOM;
 
-fn columns_case(
+fn columns_case<W: Write>(
+    output: &mut W,
     command: u8,
     line: &[u8],
     at: usize,
@@ -15,21 +18,24 @@ fn columns_case(
     bounds: &[i64],
     weights: &[i64],
     literals: &[u32],
-) -> bool {
+) -> io::Result<bool> {
     match command {
-        b'w' => writing::write_case(line, at, kinds, firsts, counts, bounds, weights, literals),
+        b'w' => writing::write_case(
+            output, line, at, kinds, firsts, counts, bounds, weights, literals,
+        ),
         b'n' => vectors_normalising::normal_case(
-            line, at, kinds, firsts, counts, bounds, weights, literals,
+            output, line, at, kinds, firsts, counts, bounds, weights, literals,
         ),
         b'e' => evaluating::evaluate_case(
-            line, at, kinds, firsts, counts, bounds, weights, literals,
+            output, line, at, kinds, firsts, counts, bounds, weights, literals,
         ),
-        _ => false,
+        _ => Ok(false),
     }
 }
 
 // The columns of terms stand from `at` on.
-fn terms_case(
+fn terms_case<W: Write>(
+    output: &mut W,
     command: u8,
     line: &[u8],
     at: usize,
@@ -37,7 +43,7 @@ fn terms_case(
     firsts: &[usize],
     counts: &[usize],
     bounds: &[i64],
-) -> bool {
+) -> io::Result<bool> {
     let mut weights = [0i64; ROOM];
     let mut literals = [0u32; ROOM];
     let w = vectors_columns::integers_at(line, at, &mut weights);
@@ -45,6 +51,7 @@ fn terms_case(
     let m = w.count;
     let n = l.count;
     columns_case(
+        output,
         command,
         line,
         l.next,
@@ -58,7 +65,7 @@ fn terms_case(
 }
 
 // Whether the line is a case over a table, which is then run.
-pub fn table_case(command: u8, line: &[u8]) -> bool {
+pub fn table_case<W: Write>(output: &mut W, command: u8, line: &[u8]) -> io::Result<bool> {
     let mut kinds = [0u8; ROOM];
     let mut firsts = [0usize; ROOM];
     let mut counts = [0usize; ROOM];
@@ -72,6 +79,7 @@ pub fn table_case(command: u8, line: &[u8]) -> bool {
     let q = n.count;
     let r = b.count;
     terms_case(
+        output,
         command,
         line,
         b.next,

@@ -1,20 +1,23 @@
 // A table, written. Assumes nothing.
 use definitions::{Length, Mode};
+use std::io;
+use std::io::Write;
 use vectors_columns::ROOM;
 use vectors_shown::{say, say_bytes, say_refusal, say_size};
 
-fn show_written(answer: Length) {
+fn show_written<W: Write>(output: &mut W, answer: Length) -> io::Result<()> {
     match answer {
-        Length::Refused(why) => say_refusal(why.number, why.place),
+        Length::Refused(why) => say_refusal(output, why.number, why.place),
         Length::Is(n) => {
-            say(b" wrote");
-            say_size(n);
+            say(output, b" wrote")?;
+            say_size(output, n)
         }
     }
 }
 
 // Into an output of so many dots.
-fn write(
+fn write<W: Write>(
+    output: &mut W,
     mode: Mode,
     room: usize,
     text: &[u8],
@@ -24,20 +27,21 @@ fn write(
     bounds: &[i64],
     weights: &[i64],
     literals: &[u32],
-) {
+) -> io::Result<()> {
     let mut out = [b'.'; ROOM];
     if room > ROOM {
-        return;
+        return Ok(());
     }
     let lent = &mut out[0..room];
     let answer = writer::write_opb_lines(
         kinds, firsts, counts, bounds, weights, literals, text, mode, lent,
     );
-    show_written(answer);
-    say_bytes(lent);
+    show_written(output, answer)?;
+    say_bytes(output, lent)
 }
 
-pub(crate) fn write_case(
+pub(crate) fn write_case<W: Write>(
+    output: &mut W,
     line: &[u8],
     at: usize,
     kinds: &[u8],
@@ -46,14 +50,14 @@ pub(crate) fn write_case(
     bounds: &[i64],
     weights: &[i64],
     literals: &[u32],
-) -> bool {
+) -> io::Result<bool> {
     let mut text = [0u8; ROOM];
     let first = vectors_words::natural_at(line, at, 4_294_967_295);
     let plain = vectors_words::natural_at(line, first.next, 1);
     let room = vectors_words::natural_at(line, plain.next, 512);
     let t = vectors_columns::bytes_at(line, room.next, &mut text);
     if t.next != line.len() {
-        return false;
+        return Ok(false);
     }
     let n = t.count;
     let mode = Mode {
@@ -61,6 +65,7 @@ pub(crate) fn write_case(
         plain: plain.value == 1,
     };
     write(
+        output,
         mode,
         room.value as usize,
         &text[0..n],
@@ -70,6 +75,6 @@ pub(crate) fn write_case(
         bounds,
         weights,
         literals,
-    );
-    true
+    )?;
+    Ok(true)
 }

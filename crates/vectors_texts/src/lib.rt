@@ -3,92 +3,94 @@
 // nothing.
 use numbers::NumberRead;
 use outputs::Put;
+use std::io;
+use std::io::Write;
 use vectors_columns::ROOM;
 use vectors_shown::{say, say_bytes, say_count, say_integer, say_size};
 
 // ---- the front of a text
 
-fn show_blanks(s: &[u8]) {
-    say_size(blanks::blanks_of(s));
-    say_size(blanks::line_ending_of(s));
-    say_size(blanks::until_ending_of(s));
+fn show_blanks<W: Write>(output: &mut W, s: &[u8]) -> io::Result<()> {
+    say_size(output, blanks::blanks_of(s))?;
+    say_size(output, blanks::line_ending_of(s))?;
+    say_size(output, blanks::until_ending_of(s))
 }
 
-fn show_number(s: &[u8]) {
+fn show_number<W: Write>(output: &mut W, s: &[u8]) -> io::Result<()> {
     match numbers::read_number(s) {
         NumberRead::Number(z, n) => {
-            say_integer(z);
-            say_size(n);
+            say_integer(output, z)?;
+            say_size(output, n)
         }
-        NumberRead::Missing => say(b" missing"),
+        NumberRead::Missing => say(output, b" missing"),
     }
 }
 
-fn show_run(s: &[u8]) {
+fn show_run<W: Write>(output: &mut W, s: &[u8]) -> io::Result<()> {
     let r = numbers::read_run(s);
-    say_count(r.size);
-    say_size(r.count);
+    say_count(output, r.size)?;
+    say_size(output, r.count)
 }
 
-fn show_text(s: &[u8]) {
-    show_blanks(s);
-    show_number(s);
-    show_run(s);
+fn show_text<W: Write>(output: &mut W, s: &[u8]) -> io::Result<()> {
+    show_blanks(output, s)?;
+    show_number(output, s)?;
+    show_run(output, s)
 }
 
-pub fn text_case(line: &[u8]) -> bool {
+pub fn text_case<W: Write>(output: &mut W, line: &[u8]) -> io::Result<bool> {
     let mut text = [0u8; ROOM];
     let t = vectors_columns::bytes_at(line, 2, &mut text);
     if t.next != line.len() {
-        return false;
+        return Ok(false);
     }
     let n = t.count;
-    show_text(&text[0..n]);
-    true
+    show_text(output, &text[0..n])?;
+    Ok(true)
 }
 
 // ---- prints
 
-fn show_put(r: Put, out: &[u8]) {
+fn show_put<W: Write>(output: &mut W, r: Put, out: &[u8]) -> io::Result<()> {
     match r {
-        Put::Done(e) => say_size(e),
-        Put::Full => say(b" full"),
+        Put::Done(e) => say_size(output, e)?,
+        Put::Full => say(output, b" full")?,
     }
-    say_bytes(out);
+    say_bytes(output, out)
 }
 
-fn print_number(z: i64, at: usize) {
+fn print_number<W: Write>(output: &mut W, z: i64, at: usize) -> io::Result<()> {
     let mut out = [b'.'; 24];
-    say_size(lengths::number_length(z));
+    say_size(output, lengths::number_length(z))?;
     let r = outputs::print_number(z, &mut out, at);
-    show_put(r, &out);
+    show_put(output, r, &out)
 }
 
-fn print_count(m: u64, at: usize) {
+fn print_count<W: Write>(output: &mut W, m: u64, at: usize) -> io::Result<()> {
     let mut out = [b'.'; 24];
-    say_size(lengths::count_length(m));
+    say_size(output, lengths::count_length(m))?;
     let r = outputs::print_count(m, &mut out, at);
-    show_put(r, &out);
+    show_put(output, r, &out)
 }
 
-fn print_text(t: &[u8], at: usize) {
+fn print_text<W: Write>(output: &mut W, t: &[u8], at: usize) -> io::Result<()> {
     let mut out = [b'.'; 24];
     let r = outputs::print_text(t, &mut out, at);
-    show_put(r, &out);
+    show_put(output, r, &out)
 }
 
-pub fn print_case(line: &[u8]) -> bool {
+pub fn print_case<W: Write>(output: &mut W, line: &[u8]) -> io::Result<bool> {
     let mut text = [0u8; ROOM];
     let z = vectors_words::integer_at(line, 2);
     let m = vectors_words::natural_at(line, z.next, 18_446_744_073_709_551_615);
     let at = vectors_words::natural_at(line, m.next, 18_446_744_073_709_551_615);
     let t = vectors_columns::bytes_at(line, at.next, &mut text);
     if t.next != line.len() {
-        return false;
+        return Ok(false);
     }
     let n = t.count;
-    print_number(z.value, at.value as usize);
-    print_count(m.value, at.value as usize);
-    print_text(&text[0..n], at.value as usize);
-    true
+    print_number(output, z.value, at.value as usize)?;
+    print_count(output, m.value, at.value as usize)?;
+    print_text(output, &text[0..n], at.value as usize)?;
+    Ok(true)
 }
