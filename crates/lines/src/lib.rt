@@ -2,6 +2,8 @@
 // as in the Rust (01, "The lines written"). A piece that does not fit is left out, so that nothing is asked of the
 // output: who has measured the line before knows that all of it is put. specs/LinePieces.antt says what the pieces of a
 // row are. Assumes nothing.
+#![tactic(auto)]
+
 mod frames;
 mod terms;
 

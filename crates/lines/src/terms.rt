@@ -11,7 +11,7 @@ use puts::{put_number, put_text};
 use shown::{Shown, Style, Sums, show_term, with_weight};
 
 // Where the text of a row's terms ends, and their sums.
-#[derive(Drop)]
+#[derive(Clone, Copy)]
 pub(crate) struct Ended {
     pub at: usize,
     pub sums: Sums,
