@@ -1,5 +1,7 @@
 // The terms of the statement that a walker (crates/held) comes to next, into lent columns: the struct is taken apart
-// and `fills::fill_at` called, by a walk of its own as there. Assumes nothing.
+// and `fills::fill_at` called. Assumes nothing.
+#![tactic(auto)]
+
 ghost use Rattle.definitions.specs.Stepping.{terms_at_step};
 ghost use Rattle.fills.specs.FillsTerms.{FillsTerms};
 
