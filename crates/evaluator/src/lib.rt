@@ -1,6 +1,8 @@
 // The evaluator (01, "Normalising and evaluating"): one row of a table under an assignment lent as words, all of them
 // known or with a second row of words that says which variables are (02, A1). The number of ones is counted first or,
 // where a row is judged, not at all. Assumes nothing.
+#![tactic(auto)]
+
 mod judging;
 
 ghost use Rattle.std.specs.Prelude.{◌≡◌};
