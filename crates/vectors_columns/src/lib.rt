@@ -1,5 +1,7 @@
 // A part of the program `vectors`: the columns of a case's line, each read into an array of as many entries or more.
 // Assumes nothing.
+#![tactic(auto)]
+
 ghost use Rattle.std.specs.Prelude.{◌≤◌, length};
 
 use vectors_words::{integer_at, natural_at};

@@ -2,6 +2,8 @@
 // the byte that ends it, a space or the line's LF. So a line is read whole where the place behind its last number is the
 // line's end. Behind a number that is not there, or not as it should be, is no place of the line, and no number is there:
 // so a line is asked once, at its end, whether it was good. Assumes nothing.
+#![tactic(auto)]
+
 ghost use Rattle.std.specs.Prelude.{◌≤◌};
 
 use numbers::NumberRead;
