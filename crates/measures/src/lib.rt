@@ -1,5 +1,7 @@
 // The first of two walks over rows that are to be written (01, "The lines written"): it checks all rows and counts the
 // length of their lines, before a byte is written. Assumes nothing.
+#![tactic(auto)]
+
 mod entries;
 mod rows;
 mod terms;
@@ -15,7 +17,7 @@ pub use rows::Extent;
 use rows::Measured;
 
 // What the first walk says of all rows: what they come to, or the first refusal and its row.
-#[derive(Drop)]
+#[derive(Clone, Copy)]
 pub enum Measure {
     Lines(Extent),
     Refused(Refusal),

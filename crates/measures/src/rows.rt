@@ -11,7 +11,7 @@ use printed::{Bound, Shape, printed_bound, style_of};
 
 // What rows come to: the length of their lines, and how many lines and terms come back where these are read; each up to
 // the limit of a needed number.
-#[derive(Drop)]
+#[derive(Clone, Copy)]
 pub struct Extent {
     pub length: u64,
     pub lines: u64,
@@ -19,7 +19,7 @@ pub struct Extent {
 }
 
 // What the first walk says of one row, or the number of its refusal.
-#[derive(Drop)]
+#[derive(Clone, Copy)]
 pub(crate) enum Measured {
     Is(Extent),
     Refused(u8),

@@ -9,14 +9,14 @@ use shown::{Shown, Style, Sums, show_term, with_weight};
 
 // What the first walk counts of a row's terms: whether each so far has a file number, and if so the length of their
 // text.
-#[derive(Drop)]
+#[derive(Clone, Copy)]
 pub(crate) struct Tally {
     pub sums: Sums,
     pub numbered: bool,
     pub length: u64,
 }
 
-#[derive(Drop)]
+#[derive(Clone, Copy)]
 pub(crate) enum Tallied {
     Is(Tally),
     // "an index above its limit", "a negative weight": 11
