@@ -11,7 +11,7 @@ use verdicts::Evaluated;
 // words. `refusal` is 0 exactly where the call accepted, else the refusal's number; then `place` is its place and every
 // other number is 0.
 #[repr(C)]
-#[derive(Drop)]
+#[derive(Clone, Copy)]
 pub struct OpbValue {
     pub refusal: u8,
     pub place: u64,

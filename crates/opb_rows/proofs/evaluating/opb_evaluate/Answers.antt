@@ -1,0 +1,8 @@
+-- `opb_evaluate` meets its contract: the evaluator's answer, said.
+use mathlib.Core.Path.{ap, ◌∙◌}
+use Rattle.opb_rows.specs.ByValue.{value_answer}
+use Rattle.opb_rows.proofs.evaluating.opb_evaluate.Goals as goal
+
+pub returns : goal.returns
+returns c =
+    c.value_of.ensures ∙ ap value_answer c.evaluate.ensures

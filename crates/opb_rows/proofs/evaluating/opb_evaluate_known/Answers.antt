@@ -1,0 +1,8 @@
+-- `opb_evaluate_known` meets its contract: the evaluator's answer, said.
+use mathlib.Core.Path.{ap, ◌∙◌}
+use Rattle.opb_rows.specs.ByValue.{value_answer}
+use Rattle.opb_rows.proofs.evaluating.opb_evaluate_known.Goals as goal
+
+pub returns : goal.returns
+returns c =
+    c.value_of.ensures ∙ ap value_answer c.evaluate_known.ensures
