@@ -1,6 +1,8 @@
 // The first of the two walks that normalise a table (01, "Normalising and evaluating"): each row is checked, rows and
 // terms are counted, and held against the room of the columns that are to be filled. "Row by row 11, 8; then 9, 10."
 // Assumes nothing.
+#![tactic(auto)]
+
 ghost use Rattle.std.specs.Prelude.{◌≡◌, ◌+◌};
 ghost use Rattle.definitions.specs.Answers.{said_counted};
 ghost use Rattle.definitions.specs.Normal.{normalising};
