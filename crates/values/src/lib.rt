@@ -1,5 +1,7 @@
 // A solver's value lines (02, A1), the Rust's `extend_from_vline`: a block of lines makes variables known, in two lent
 // rows of words. Nothing is set before the whole block is known to be good. Assumes nothing.
+#![tactic(auto)]
+
 mod string;
 
 ghost use Rattle.std.specs.Prelude.{◌≡◌, ◌<◌, min, leb, length};

@@ -7,8 +7,7 @@ use native.Mathlib.Decide.{dec_le}
 use borrow.Author.Tests.{lt-leb, le-leb}
 use lib.Dec.{leb}
 use lib.ListN.{length}
-use Rattle.values.proofs.has_words.Statement.{statement}
-use Rattle.values.proofs.has_words.Tie as tie
+use Rattle.values.proofs.has_words.Goals as goal
 
 few : (n a b : ℕ) → a < n → false ≡ leb n (min a b)
 few n a b h = sym (lt-leb n (min a b) (omega arith))
@@ -20,11 +19,8 @@ enough n a b h = by (dec_le n b)
     by (yes k) = le-leb n b k ∙ sym (le-leb n (min a b) (omega arith))
     by (no k) = lt-leb n b (omega arith) ∙ sym (lt-leb n (min a b) (omega arith))
 
-returns : tie.Need-returns
-returns c = few _ _ _ c.if1.true
+pub returns-then-values-needed : goal.returns-then-values-needed
+returns-then-values-needed c = few _ _ _ c.if-values-needed.true
 
-returns-2 : tie.Need-returns-2
-returns-2 c = enough c.before.args.needed (length c.before.args.values.now) _ (omega (arith, c.if1.false))
-
-pub has-words-spec : {M : Type 1} → statement M
-has-words-spec = tie.close (tie.spec returns returns-2)
+pub returns : goal.returns
+returns c = enough c.args.needed (length c.args.values.now) _ (omega (arith, c.if-values-needed.false))
