@@ -1,6 +1,8 @@
 // The house lines of the listing program (01, "Examples on each side"), from a table into a lent output. Two walks over
 // the rows: house_measures checks and counts, and what it has accepted is put. Every table gets an answer; a refused
 // call changes nothing. specs/ListsTable.antt says what `list_table` promises. Assumes nothing.
+#![tactic(auto)]
+
 mod lines;
 mod terms;
 

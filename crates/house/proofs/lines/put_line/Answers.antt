@@ -1,0 +1,102 @@
+-- `put_line` meets its contract: the word with its tab, the bound, the terms and an LF, one behind the other.
+use native.Mathlib.Omega.{arith}
+use mathlib.Core.Path.{◌≡◌, refl, sym}
+use mathlib.Core.List.{List, [], ◌∷◌, ◌++◌}
+use Prim.Native.Nat.{ℕ, ◌+◌, ◌≤◌}
+use lib.ListN.{length, set, length-set}
+use mir.Facts.{to_z-of_z}
+use Rattle.definitions.specs.Lists.{joined}
+use Rattle.definitions.specs.Bytes.{lf}
+use Rattle.definitions.specs.Number.{integer_text}
+use Rattle.definitions.specs.Row.{row, row_of}
+use Rattle.definitions.specs.Table.{terms_on}
+use Rattle.definitions.specs.House.{term_fields, house_line}
+use Rattle.laws.proofs.Puts.{Puts, front-room, rest-room, puts-as, puts_then, puts-byte, puts-length}
+use Rattle.columns.specs.Kinds.{read_kind}
+use Rattle.puts.proofs.LandLaws.{lands}
+use Rattle.house_lengths.specs.Words.{word_field}
+use Rattle.house_lengths.proofs.WordLaws.{line-words}
+use Rattle.house.proofs.lines.put_line.Goals as goal
+use Rattle.house.proofs.lines.put_line.Goals.{After-put_number-b, After-put_terms-end, After-put_word-a, Start}
+
+abbrev word : Start → List ℕ
+word s = word_field (read_kind s.args.kind)
+
+abbrev bound : Start → List ℕ
+bound s = integer_text s.args.bound
+
+abbrev terms : Start → List ℕ
+terms s = joined (term_fields s.args.first) (terms_on s.args.weights.now s.args.literals.now)
+
+abbrev whole : Start → List ℕ
+whole s = word s ++ (bound s ++ (terms s ++ (lf ∷ [])))
+
+words : (s : Start)
+    → house_line s.args.first (row (row_of (read_kind s.args.kind) s.args.bound
+    (terms_on s.args.weights.now s.args.literals.now))) ≡ whole s
+words s =
+    line-words s.args.first (read_kind s.args.kind) s.args.bound (terms_on s.args.weights.now s.args.literals.now)
+
+room : (s : Start) → s.args.at + length (whole s) ≤ length s.args.out.now
+room s = rw (words s) at s.requires.room
+
+module _ (c : After-put_word-a) where
+  abbrev start : Start
+  start = (goal.at.After-put_word-a c).Start
+
+  rest₁ : c.put_word-a.result + length (bound start ++ (terms start ++ (lf ∷ []))) ≤ length c.put_word-a.new.out
+  rest₁ = rest-room c.put_word-a.ensures (bound start ++ (terms start ++ (lf ∷ []))) (room start)
+
+module _ (c : After-put_number-b) where
+  abbrev word-put : After-put_word-a
+  word-put = (goal.at.After-put_number-b c).After-put_word-a
+
+  bound-put : Puts (bound (start word-put)) word-put.put_word-a.result word-put.put_word-a.new.out
+      c.put_number-b.result c.put_number-b.new.out
+  bound-put =
+      let s = start word-put in
+      lands (bound s) _ _ (rw (to_z-of_z s.ranges.bound) at c.put_number-b.ensures)
+      (front-room (bound s) (terms s ++ (lf ∷ [])) _ (rest₁ word-put))
+
+  rest₂ : c.put_number-b.result + length (terms (start word-put) ++ (lf ∷ [])) ≤ length c.put_number-b.new.out
+  rest₂ = rest-room bound-put (terms (start word-put) ++ (lf ∷ [])) (rest₁ word-put)
+
+module _ (c : After-put_terms-end) where
+  abbrev number_put : After-put_number-b
+  number_put = (goal.at.After-put_terms-end c).After-put_number-b
+
+  abbrev s : Start
+  s = start (word-put number_put)
+
+  rest₃ : c.put_terms-end.result + length (lf ∷ []) ≤ length c.put_terms-end.new.out
+  rest₃ = rest-room c.put_terms-end.ensures (lf ∷ []) (rest₂ number_put)
+
+  all-put : Puts (whole s) s.args.at s.args.out.now (c.put_terms-end.result + 1)
+      (set c.put_terms-end.new.out c.put_terms-end.result lf)
+  all-put =
+      puts_then (word-put number_put).put_word-a.ensures (front-room (word s) (bound s ++ (terms s ++ (lf ∷ []))) _ (room s))
+      (puts_then (bound-put number_put) (front-room (bound s) (terms s ++ (lf ∷ [])) _ (rest₁ (word-put number_put)))
+      (puts_then c.put_terms-end.ensures (front-room (terms s) (lf ∷ []) _ (rest₂ number_put))
+      (puts-byte lf _ _ _ (omega (arith, rest₃)) refl)))
+
+  all-long : length c.put_terms-end.new.out ≡ length s.args.out.now
+  all-long = rw length-set at (puts-length all-put (room s))
+
+pub put_word-a-requires : goal.put_word-a-requires
+put_word-a-requires c = front-room (word (goal.at.put_word-a-requires c).Start) (bound (goal.at.put_word-a-requires c).Start ++ (terms (goal.at.put_word-a-requires c).Start ++ (lf ∷ []))) _ (room (goal.at.put_word-a-requires c).Start)
+
+pub put_terms-end-requires : goal.put_terms-end-requires
+put_terms-end-requires c = let s = start (word-put (goal.at.put_terms-end-requires c).After-put_number-b) in record
+    { long = s.requires.long; numbers = s.requires.numbers; room = front-room (terms s) (lf ∷ []) _ (rest₂ (goal.at.put_terms-end-requires c).After-put_number-b) }
+
+pub bounds-out-end : goal.bounds-out-end
+bounds-out-end c = omega (arith, rest₃ (goal.at.bounds-out-end c).After-put_terms-end)
+
+pub overflow_add-result : goal.overflow_add-result
+overflow_add-result c = omega (arith, rest₃ (goal.at.overflow_add-result c).After-put_terms-end, all-long (goal.at.overflow_add-result c).After-put_terms-end, (s (goal.at.overflow_add-result c).After-put_terms-end).well_formed)
+
+pub shape_of-out : goal.shape_of-out
+shape_of-out c = simp length-set (all-long (goal.at.shape_of-out c).After-put_terms-end)
+
+pub returns : goal.returns
+returns c = puts-as (all-put (goal.at.returns c).After-put_terms-end) (sym (words (s (goal.at.returns c).After-put_terms-end)))
