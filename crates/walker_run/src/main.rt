@@ -1,7 +1,8 @@
 // Runs the walker's own functions on four small files: a walker is made, looked ahead with, stepped twice, asked where
-// it stands, moved, and its statement's terms are filled. Each function with a local that holds the file is proved by a
-// walk of its own, so there are three, and each does nothing but call; all else is covered.
-// tests/vectors/walker_stdout.py makes stdout. Assumes nothing but what libc says of itself.
+// it stands, moved, and its statement's terms are filled. tests/vectors/walker_stdout.py makes stdout. Assumes nothing
+// but what libc says of itself.
+#![tactic(auto)]
+
 ghost use Rattle.std.specs.Prelude.{◌≡◌};
 ghost use Rattle.definitions.specs.Stepping.{step_at, terms_at_step};
 ghost use Rattle.fills.specs.FillsTerms.{FillsTerms};
@@ -14,7 +15,7 @@ use walker::Stepped;
 // ---- the functions over a walker
 
 // Two statements in a row, and where the walker then stands.
-#[derive(Drop)]
+#[derive(Clone, Copy)]
 struct Walked {
     first: Stepped,
     second: Stepped,
