@@ -1,4 +1,6 @@
 // A part of the program `vectors`: a number as a file number, an index, a code and a byte. Assumes nothing.
+#![tactic(auto)]
+
 use definitions::{Beginning, Class};
 use literals::{FileNumber, FileNumberRead, Lit, LitRead, Var, VarRead};
 use std::io;

@@ -1,5 +1,7 @@
 // A part of the program `vectors`: a file, read into columns. They are arrays, of which as many entries are lent as the
 // case says. Assumes nothing.
+#![tactic(auto)]
+
 use definitions::Options;
 use std::io;
 use std::io::Write;

@@ -1,6 +1,8 @@
 // A part of the program `vectors`: the front of a text; and a number, a count and a text printed into an output of 24
 // bytes, which are dots before. Each public function says whether the line is such a case, which is then run. Assumes
 // nothing.
+#![tactic(auto)]
+
 use numbers::NumberRead;
 use outputs::Put;
 use std::io;
