@@ -1,5 +1,7 @@
 // What writing rows and reading the written part again will answer, before anything is changed: what comes back is
 // counted from the rows alone. specs/Returning.antt says what is answered. Assumes nothing.
+#![tactic(auto)]
+
 ghost use Rattle.std.specs.Prelude.{◌≡◌, length};
 ghost use Rattle.definitions.specs.Write.{writing};
 ghost use Rattle.definitions.specs.Table.{table};
@@ -9,7 +11,7 @@ use definitions::{Mode, Refusal};
 use measures::{Extent, Measure};
 
 // The writer's refusal; the reader's refusal; or the length of the text, and the rows and terms read back.
-#[derive(Drop)]
+#[derive(Clone, Copy)]
 pub enum Returned {
     NotWritten(Refusal),
     NotRead(Refusal),
