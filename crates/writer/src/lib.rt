@@ -1,6 +1,8 @@
 // Rows become the lines that the Rust writes, byte for byte, or a refusal (01, "The lines written"). Two walks: the
 // first, `measures`, checks all rows and counts the length, the second writes. So a refused call changes no byte of the
 // output. Assumes nothing.
+#![tactic(auto)]
+
 mod entries;
 
 ghost use Rattle.std.specs.Prelude.{◌≡◌};
