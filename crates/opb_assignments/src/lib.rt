@@ -2,6 +2,8 @@
 // convention over slices (a pointer and a length) and numbers, with an answer by value. The call asks nothing of what
 // it is lent but that it is there. A refused call leaves both rows of words as they were, an accepted one changes only
 // the bits of the variables that it meets. specs/Calls.antt says what it promises. Assumes nothing.
+#![tactic(auto)]
+
 ghost use Rattle.std.specs.Prelude.{◌≡◌};
 ghost use Rattle.definitions.specs.Refusal.{refusal};
 ghost use Rattle.definitions.specs.Table.{refused, accepted};
