@@ -1,6 +1,8 @@
 // The normaliser (01, "Normalising and evaluating"): every row of a table, normal, into lent columns. Two walks over
 // the rows: crates/normal_checks checks and counts, fill.rt fills. Every table gets an answer; a refused call changes
 // nothing. specs/Normalises.antt says what the entry promises. Assumes nothing.
+#![tactic(auto)]
+
 mod fill;
 
 ghost use Rattle.definitions.specs.Table.{table};
