@@ -1,5 +1,7 @@
 // A file read into lent columns, and what was read, or the refusal, listed into a lent output, where its house lines
 // fit (01, "Examples on each side"). specs/ListsRead.antt says what is promised. Assumes nothing.
+#![tactic(auto)]
+
 ghost use Rattle.definitions.specs.Table.{table};
 ghost use Rattle.listing_read.specs.ListsRead.{ListsRead};
 
