@@ -21,8 +21,8 @@ copies_length a (suc n) = ap suc (copies_length a n)
 abbrev roomy : ℕ → ℕ → Table
 roomy rows terms = table (copies 0 rows) (copies 0 rows) (copies 0 rows) (copies (pos 0) rows) (copies (pos 0) terms) (copies 0 terms)
 
-row_room : (rows terms : ℕ) → row_room (roomy rows terms) ≡ rows
-row_room rows terms = omega (arith, copies_length {A = ℕ} 0 rows, copies_length (pos 0) rows)
+row-room : (rows terms : ℕ) → row_room (roomy rows terms) ≡ rows
+row-room rows terms = omega (arith, copies_length {A = ℕ} 0 rows, copies_length (pos 0) rows)
 
 term-room : (rows terms : ℕ) → term_room (roomy rows terms) ≡ terms
 term-room rows terms = omega (arith, copies_length {A = ℕ} 0 terms, copies_length (pos 0) terms)
@@ -31,7 +31,7 @@ any-room : {rows terms : ℕ} {f : Table → ℕ} {r r' : ℕ} → ((t : Table) 
     → ((t : Table) → row_room t ≡ rows → term_room t ≡ terms → r' ≡ f t) → r ≡ r'
 any-room {rows} {terms} p q =
     let t = roomy rows terms in
-    p t (row_room rows terms) (term-room rows terms) ∙ sym (q t (row_room rows terms) (term-room rows terms))
+    p t (row-room rows terms) (term-room rows terms) ∙ sym (q t (row-room rows terms) (term-room rows terms))
 
 pub listing-length-one : (κs : _) (a : _) (r r' : _) (s s' : _) → listing-length.Post κs a r s → listing-length.Post κs a r' s' → r ≡ r'
 listing-length-one κs a r r' s s' p q = any-room p q

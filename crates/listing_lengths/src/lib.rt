@@ -1,6 +1,8 @@
 // The length that a file's house lines need (01, "Examples on each side"), from its text alone: a walk over its
 // statements that measures each line, so that nothing lent need be changed before it is known whether the lines fit.
 // specs/Measure.antt says what is counted. Assumes nothing.
+#![tactic(auto)]
+
 mod statement;
 
 ghost use Rattle.std.specs.Prelude.{◌≡◌, length};
@@ -14,14 +16,14 @@ use definitions::{FILE_LIMIT, Options, Refusal};
 use statements::StatementRead;
 
 // How many rows and terms a file has, and the length of their lines.
-#[derive(Drop)]
+#[derive(Clone, Copy)]
 pub(crate) struct Sizes {
     pub rows: usize,
     pub terms: usize,
     pub lines: u64,
 }
 
-#[derive(Drop)]
+#[derive(Clone, Copy)]
 pub(crate) enum Measured {
     Refused(Refusal),
     Lines(Sizes),
