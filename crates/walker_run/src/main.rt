@@ -1,6 +1,5 @@
 // Runs the walker's own functions on four small files: a walker is made, looked ahead with, stepped twice, asked where
-// it stands, moved, and its statement's terms are filled. tests/vectors/walker_stdout.py makes stdout. Assumes nothing
-// but what libc says of itself.
+// it stands, moved, and its statement's terms are filled. tests/vectors/walker_stdout.py makes stdout. Assumes nothing.
 #![tactic(auto)]
 
 ghost use Rattle.std.specs.Prelude.{◌≡◌};
@@ -10,6 +9,8 @@ ghost use Rattle.walker.specs.Said.{said_stepped, brief_stepped};
 ghost use Rattle.walker_run.specs.Stands.{stands_after};
 
 use definitions::{Entry, Length, Options, Refusal};
+use std::io;
+use std::io::Write;
 use walker::Stepped;
 
 // ---- the functions over a walker
@@ -55,121 +56,70 @@ fn terms_at(
 
 // ---- what is written
 
-fn say(s: &[u8]) {
-    io::write_all(libc::STDOUT_FILENO, s);
+fn show_line<W: Write>(output: &mut W, entry: Entry, next: usize) -> io::Result<()> {
+    write!(output, "kind {} first {} ", entry.kind, entry.first)?;
+    write!(output, "count {} bound {} ", entry.count, entry.bound)?;
+    write!(output, "next {next}")
 }
 
-fn say_count(n: usize) {
-    say(b" ");
-    io::print_decimal(libc::STDOUT_FILENO, n as u64);
+fn show_refusal<W: Write>(output: &mut W, refusal: Refusal) -> io::Result<()> {
+    write!(output, "refused {} at {}", refusal.number, refusal.place)
 }
 
-fn say_number(z: i64) {
-    if z < 0 {
-        say(b" -");
-    } else {
-        say(b" ");
-    }
-    io::print_decimal(libc::STDOUT_FILENO, numbers::magnitude(z));
-}
-
-fn of_byte(b: u8) -> usize {
-    b as usize
-}
-
-fn of_code(c: u32) -> usize {
-    c as usize
-}
-
-fn show_line(entry: Entry, next: usize) {
-    say(b"kind");
-    say_count(of_byte(entry.kind));
-    say(b" first");
-    say_count(entry.first);
-    say(b" count");
-    say_count(entry.count);
-    say(b" bound");
-    say_number(entry.bound);
-    say(b" next");
-    say_count(next);
-}
-
-fn show_refusal(refusal: Refusal) {
-    say(b"refused");
-    say_count(of_byte(refusal.number));
-    say(b" at ");
-    io::print_decimal(libc::STDOUT_FILENO, refusal.place);
-}
-
-fn show_step(s: Stepped) {
+fn show_step<W: Write>(output: &mut W, s: Stepped) -> io::Result<()> {
     match s {
-        Stepped::End => {
-            say(b"end");
-        }
-        Stepped::Refused(refusal) => {
-            show_refusal(refusal);
-        }
-        Stepped::Line { entry, next } => {
-            show_line(entry, next);
-        }
+        Stepped::End => write!(output, "end")?,
+        Stepped::Refused(refusal) => show_refusal(output, refusal)?,
+        Stepped::Line { entry, next } => show_line(output, entry, next)?,
     }
-    say(b"\n");
+    write!(output, "\n")
 }
 
-fn show_terms(filled: Length) {
+fn show_terms<W: Write>(output: &mut W, filled: Length) -> io::Result<()> {
     match filled {
-        Length::Refused(refusal) => {
-            show_refusal(refusal);
-        }
-        Length::Is(n) => {
-            say(b"terms");
-            say_count(n);
-        }
+        Length::Refused(refusal) => show_refusal(output, refusal),
+        Length::Is(n) => write!(output, "terms {n}"),
     }
 }
 
 // ---- the files
 
 // The statement at an offset, and its terms into columns of two that hold 7.
-fn show_at(file: &[u8], options: Options, at: usize) {
-    show_step(look_ahead(file, options, at));
+fn show_at<W: Write>(output: &mut W, file: &[u8], options: Options, at: usize) -> io::Result<()> {
+    show_step(output, look_ahead(file, options, at))?;
     let mut weights = [7i64; 2];
     let mut literals = [7u32; 2];
-    show_terms(terms_at(file, options, at, &mut weights, &mut literals));
-    say_number(weights[0]);
-    say_number(weights[1]);
-    say_count(of_code(literals[0]));
-    say_count(of_code(literals[1]));
-    say(b"\n");
+    let filled = terms_at(file, options, at, &mut weights, &mut literals);
+    show_terms(output, filled)?;
+    write!(output, " {} {} ", weights[0], weights[1])?;
+    write!(output, "{} {}\n", literals[0], literals[1])
 }
 
 // Where the next step is taken.
-fn show_two(file: &[u8], options: Options) -> usize {
+fn show_two<W: Write>(output: &mut W, file: &[u8], options: Options) -> io::Result<usize> {
     let seen = walk_two(file, options);
-    let first = seen.first;
-    let second = seen.second;
-    show_step(first);
-    show_step(second);
-    say(b"stands at");
-    say_count(seen.at);
-    say(b"\n");
-    seen.at
+    show_step(output, seen.first)?;
+    show_step(output, seen.second)?;
+    write!(output, "stands at {}\n", seen.at)?;
+    Ok(seen.at)
 }
 
-fn show_file(file: &[u8], options: Options) {
-    let at = show_two(file, options);
-    show_at(file, options, 0);
-    show_at(file, options, at);
-    show_at(file, options, file.len());
+fn show_file<W: Write>(output: &mut W, file: &[u8], options: Options) -> io::Result<()> {
+    let at = show_two(output, file, options)?;
+    show_at(output, file, options, 0)?;
+    show_at(output, file, options, at)?;
+    show_at(output, file, options, file.len())
 }
 
-fn main() {
+fn main(rt: HostRuntime) -> io::Result<()> {
+    let mut output = rt.stdout();
     let options = Options { first: 1 };
     show_file(
+        &mut output,
         b"* budget\nmin: 3 x1 -2 ~x2 ;\n+1 x1 +1 x2 >= 1 ;\n",
         options,
-    );
-    show_file(b"2 x3 < 5;\n 1 x0 >= 1;\n", options);
-    show_file(b"1 x1 1 x2 1 x3 = -2;\n1 x1 >= 1", options);
-    show_file(b" \t", options);
+    )?;
+    show_file(&mut output, b"2 x3 < 5;\n 1 x0 >= 1;\n", options)?;
+    show_file(&mut output, b"1 x1 1 x2 1 x3 = -2;\n1 x1 >= 1", options)?;
+    show_file(&mut output, b" \t", options)
 }
