@@ -2,6 +2,8 @@
 // (a pointer and a length) and numbers, with an answer by value. No call asks anything of what it is lent but that it
 // is there. A refused call leaves the columns as they were, an accepted one changes only the entries it counts, from
 // the front. specs/Calls.antt says what each promises. Assumes nothing.
+#![tactic(auto)]
+
 ghost use Rattle.std.specs.Prelude.{◌≡◌};
 ghost use Rattle.definitions.specs.Table.{table};
 ghost use Rattle.opb_tables.specs.Calls.{count_answer, ReadsFile, NormalisesTable};
