@@ -13,7 +13,7 @@ use lib.Dec.{eqb}
 use lib.ListN.{length, take, drop, length-drop}
 use lib.Pow.{shr-shr}
 use lib.Seq.{length-take-le, get_or-drop, drop-drop}
-use Rattle.definitions.specs.Bytes.{is_digit, space, minus, letter_x, tilde}
+use Rattle.definitions.specs.Bytes.{is_digit, minus, letter_x, tilde}
 use Rattle.definitions.specs.Number.{leading, value}
 use Rattle.definitions.proofs.Truths.{one_truth}
 use Rattle.plain_parts.specs.Lanes.{lanes, all_bytes, FirstGap, DigitsAre, DigitsSay}

@@ -57,17 +57,21 @@ bounds-s-1 c = omega (arith, bytes-within (here (goal.at.bounds-s-1 c).After-lin
 
 pub returns-then-s-eq32 : goal.returns-then-s-eq32
 returns-then-s-eq32 c =
-    let e = here (goal.at.returns-then-s-eq32 c).After-line_ending_of in
-    sym (remark-spaced (text e) (bytes e) (text-some e) (bytes-is e) c.line_ending_of.result (ending-is (goal.at.returns-then-s-eq32 c).After-line_ending_of)
+    let p = (goal.at.returns-then-s-eq32 c).After-line_ending_of in
+    let e = here p in
+    sym (remark-spaced (text e) (bytes e) (text-some e) (bytes-is e) c.line_ending_of.result (ending-is p)
     c.if-n-gt0.true c.if-s-eq32.true)
 
 pub returns-else-s-eq32 : goal.returns-else-s-eq32
 returns-else-s-eq32 c =
-    let e = here (goal.at.returns-else-s-eq32 c).After-line_ending_of in
-    sym (remark-plain (text e) (bytes e) (text-some e) (bytes-is e) c.line_ending_of.result (ending-is (goal.at.returns-else-s-eq32 c).After-line_ending_of)
+    let p = (goal.at.returns-else-s-eq32 c).After-line_ending_of in
+    let e = here p in
+    sym (remark-plain (text e) (bytes e) (text-some e) (bytes-is e) c.line_ending_of.result (ending-is p)
     c.if-n-gt0.true c.if-s-eq32.false)
 
 pub returns-else-n-gt0 : goal.returns-else-n-gt0
 returns-else-n-gt0 c =
-    let e = here (goal.at.returns-else-n-gt0 c).After-line_ending_of in
-    sym (remark-bare (text e) (bytes e) (text-some e) (bytes-is e) c.line_ending_of.result (ending-is (goal.at.returns-else-n-gt0 c).After-line_ending_of) (omega arith))
+    let p = (goal.at.returns-else-n-gt0 c).After-line_ending_of in
+    let e = here p in
+    sym (remark-bare (text e) (bytes e) (text-some e) (bytes-is e) c.line_ending_of.result (ending-is p)
+    (omega arith))

@@ -3,7 +3,7 @@ use Prim.Native.Nat.{ℕ}
 use mathlib.Core.Bool.{Bool}
 use mathlib.Core.List.{List}
 use mathlib.Core.Path.{◌≡◌, sym, ap, ◌∙◌}
-use borrow.Author.Rules.{rules}
+use borrow.Author.Rules.{rules, sfits_of}
 use lib.IntN.{ℤ}
 use mir.Syntax.{w64}
 use mir.Val.{SFits}
@@ -49,7 +49,7 @@ module _ (c : In-Comparison) where
   comparison-got = sym (ap said_comparison c.in-Comparison.is) ∙ c.read_comparison.ensures
 
   number_fits : SFits w64 number
-  number_fits = record { sfits = c.in-Comparison.known_told-in-Comparison-1-own.given.1.0.1 }
+  number_fits = sfits_of (search rules)
 
 -- and its bound
 module _ (c : After-bound_of) where
@@ -61,26 +61,32 @@ module _ (c : After-bound_of) where
 
 pub returns-then-size-gt-WEIGHT_LIMIT : goal.returns-then-size-gt-WEIGHT_LIMIT
 returns-then-size-gt-WEIGHT_LIMIT c =
-    closed-heavy (start (goal.at.returns-then-size-gt-WEIGHT_LIMIT c).In-Comparison).args.options _ _ (operator (goal.at.returns-then-size-gt-WEIGHT_LIMIT c).In-Comparison) (number (goal.at.returns-then-size-gt-WEIGHT_LIMIT c).In-Comparison) (semicolon (goal.at.returns-then-size-gt-WEIGHT_LIMIT c).In-Comparison) (count (goal.at.returns-then-size-gt-WEIGHT_LIMIT c).In-Comparison) c.if-size-gt-WEIGHT_LIMIT.true
-    ∙ ap (closing (start (goal.at.returns-then-size-gt-WEIGHT_LIMIT c).In-Comparison)) (comparison-got (goal.at.returns-then-size-gt-WEIGHT_LIMIT c).In-Comparison)
+    let p = (goal.at.returns-then-size-gt-WEIGHT_LIMIT c).In-Comparison in
+    closed-heavy (start p).args.options _ _ (operator p) (number p) (semicolon p) (count p)
+    c.if-size-gt-WEIGHT_LIMIT.true
+    ∙ ap (closing (start p)) (comparison-got p)
 
 pub returns-in_default : goal.returns-in_default
 returns-in_default c =
-    let d = here (goal.at.returns-in_default c).After-bound_of in
+    let p = (goal.at.returns-in_default c).After-bound_of in
+    let d = here p in
     let b = start d in
     closed-beyond b.args.options b.args.terms b.args.size (operator d) (number d) (semicolon d) (count d)
-    (sym (ap said_bound c.in_default.is) ∙ bound-is (goal.at.returns-in_default c).After-bound_of)
+    (sym (ap said_bound c.in_default.is) ∙ bound-is p)
     ∙ ap (closing b) (comparison-got d)
 
 pub returns-in-Refused : goal.returns-in-Refused
 returns-in-Refused c =
-    ap (closing (goal.at.returns-in-Refused c).Start) (sym (ap said_comparison c.in-Refused.is) ∙ c.read_comparison.ensures)
+    let p = (goal.at.returns-in-Refused c).Start in
+    ap (closing p) (sym (ap said_comparison c.in-Refused.is) ∙ c.read_comparison.ensures)
 
 pub returns-in-Bound : goal.returns-in-Bound
 returns-in-Bound c =
-    let d = here (goal.at.returns-in-Bound c).After-bound_of in
-    let f : SFits w64 c.in-Bound.bound = record { sfits = c.in-Bound.known_told-in-Bound-1-own.given.0.1 } in
+    let p = (goal.at.returns-in-Bound c).After-bound_of in
+    let d = here p in
+    let f : SFits w64 c.in-Bound.bound = sfits_of (search rules) in
     rw (to_z-of_z f, c.kind_of.ensures)
-    (closed-row (start d).args.options _ _ (operator d) (number d) (semicolon d) (count d) _ c.if-size-gt-WEIGHT_LIMIT.false
-    (sym (ap said_bound c.in-Bound.is) ∙ bound-is (goal.at.returns-in-Bound c).After-bound_of)
+    (closed-row (start d).args.options _ _ (operator d) (number d) (semicolon d) (count d) _
+    c.if-size-gt-WEIGHT_LIMIT.false
+    (sym (ap said_bound c.in-Bound.is) ∙ bound-is p)
     ∙ ap (closing (start d)) (comparison-got d))

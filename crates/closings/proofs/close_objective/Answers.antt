@@ -36,12 +36,14 @@ returns-in_default c =
 
 pub returns-then-size-gt-WEIGHT_LIMIT : goal.returns-then-size-gt-WEIGHT_LIMIT
 returns-then-size-gt-WEIGHT_LIMIT c =
-    let b = start (goal.at.returns-then-size-gt-WEIGHT_LIMIT c).In-Ending in
-    ended-heavy b.args.options _ _ (semicolon (goal.at.returns-then-size-gt-WEIGHT_LIMIT c).In-Ending) _ c.if-size-gt-WEIGHT_LIMIT.true
-    ∙ ap (ended_by b.args.options b.args.terms b.args.size) (ending-got (goal.at.returns-then-size-gt-WEIGHT_LIMIT c).In-Ending)
+    let p = (goal.at.returns-then-size-gt-WEIGHT_LIMIT c).In-Ending in
+    let b = start p in
+    ended-heavy b.args.options _ _ (semicolon p) _ c.if-size-gt-WEIGHT_LIMIT.true
+    ∙ ap (ended_by b.args.options b.args.terms b.args.size) (ending-got p)
 
 pub returns : goal.returns
 returns c =
-    let b = start (goal.at.returns c).In-Ending in
-    ended-row b.args.options _ _ (semicolon (goal.at.returns c).In-Ending) _ c.if-size-gt-WEIGHT_LIMIT.false
-    ∙ ap (ended_by b.args.options b.args.terms b.args.size) (ending-got (goal.at.returns c).In-Ending)
+    let p = (goal.at.returns c).In-Ending in
+    let b = start p in
+    ended-row b.args.options _ _ (semicolon p) _ c.if-size-gt-WEIGHT_LIMIT.false
+    ∙ ap (ended_by b.args.options b.args.terms b.args.size) (ending-got p)

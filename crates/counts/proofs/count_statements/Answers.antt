@@ -74,25 +74,32 @@ slice_bounds-opb_data-start c = c.loop-refusal.invariant.stands.within
 
 pub returns-in-End : goal.returns-in-End
 returns-in-End c =
-    counting-stop _ _ _ _ _ (stand (goal.at.returns-in-End c).After-opb_data) (brief-stop _ (sym (ap said_statement c.in-End.is) ∙ read (goal.at.returns-in-End c).After-opb_data))
+    let p = (goal.at.returns-in-End c).After-opb_data in
+    counting-stop _ _ _ _ _ (stand p) (brief-stop _ (sym (ap said_statement c.in-End.is) ∙ read p))
 
 pub overflow_add-result : goal.overflow_add-result
-overflow_add-result c = omega (arith, place-fits _ _ _ _ _ (stand (at-bad (goal.at.overflow_add-result c).In-Refused)) _ (refusal_is (goal.at.overflow_add-result c).In-Refused))
+overflow_add-result c =
+    let p = (goal.at.overflow_add-result c).In-Refused in
+    omega (arith, place-fits _ _ _ _ _ (stand (at-bad p)) _ (refusal_is p))
 
 pub returns-in-Refused : goal.returns-in-Refused
-returns-in-Refused c = counting-bad _ _ _ _ _ (stand (at-bad (goal.at.returns-in-Refused c).In-Refused)) _ (refusal_is (goal.at.returns-in-Refused c).In-Refused)
+returns-in-Refused c =
+    let p = (goal.at.returns-in-Refused c).In-Refused in
+    counting-bad _ _ _ _ _ (stand (at-bad p)) _ (refusal_is p)
 
 pub overflow_add-rows : goal.overflow_add-rows
-overflow_add-rows c = omega (arith, within c, line-has-byte _ _ _ _ _ (stand (here c)) (terms c) (count c) (line-is c), (stand (here c)).fewer-rows)
+overflow_add-rows c = omega (arith, within c, line-has-byte _ _ _ _ _ (stand (here c)) (terms c) (count c)
+    (line-is c), (stand (here c)).fewer-rows)
 
 pub overflow_add-terms : goal.overflow_add-terms
 overflow_add-terms c =
+    let p = (goal.at.overflow_add-terms c).In-Line in
     omega (
       arith,
       c.terms_of-terms.ensures,
-      within (goal.at.overflow_add-terms c).In-Line,
-      line-terms-fewer _ _ _ _ _ (stand (here (goal.at.overflow_add-terms c).In-Line)) (terms (goal.at.overflow_add-terms c).In-Line) (count (goal.at.overflow_add-terms c).In-Line) (line-is (goal.at.overflow_add-terms c).In-Line),
-      (stand (here (goal.at.overflow_add-terms c).In-Line)).fewer-terms,
+      within p,
+      line-terms-fewer _ _ _ _ _ (stand (here p)) (terms p) (count p) (line-is p),
+      (stand (here p)).fewer-terms,
     )
 
 pub overflow_add-at : goal.overflow_add-at
@@ -100,8 +107,10 @@ overflow_add-at c = omega (arith, within (goal.at.overflow_add-at c).In-Line)
 
 pub loop-refusal-smaller : goal.loop-refusal-smaller
 loop-refusal-smaller c =
-    omega (arith, within (goal.at.loop-refusal-smaller c).In-Line, line-has-byte _ _ _ _ _ (stand (here (goal.at.loop-refusal-smaller c).In-Line)) (terms (goal.at.loop-refusal-smaller c).In-Line) (count (goal.at.loop-refusal-smaller c).In-Line) (line-is (goal.at.loop-refusal-smaller c).In-Line))
+    let p = (goal.at.loop-refusal-smaller c).In-Line in
+    omega (arith, within p, line-has-byte _ _ _ _ _ (stand (here p)) (terms p) (count p) (line-is p))
 
 pub loop-refusal-preserved : goal.loop-refusal-preserved
 loop-refusal-preserved c =
-    rw c.terms_of-terms.ensures (counting-line _ _ _ _ _ (stand (here (goal.at.loop-refusal-preserved c).In-Line)) (terms (goal.at.loop-refusal-preserved c).In-Line) (count (goal.at.loop-refusal-preserved c).In-Line) (line-is (goal.at.loop-refusal-preserved c).In-Line))
+    let p = (goal.at.loop-refusal-preserved c).In-Line in
+    rw c.terms_of-terms.ensures (counting-line _ _ _ _ _ (stand (here p)) (terms p) (count p) (line-is p))

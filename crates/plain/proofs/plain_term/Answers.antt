@@ -69,10 +69,13 @@ returns-then-options-gt1 c = first_above _ c.args.s.now (omega (arith, c.if-s-lt
 
 pub returns-in_default : goal.returns-in_default
 returns-in_default c =
-    no-weight _ (text (goal.at.returns-in_default c).Else-options-gt1) (long (goal.at.returns-in_default c).Else-options-gt1) (first (goal.at.returns-in_default c).Else-options-gt1) (ap said_weight (sym c.in_default.is) ∙ c.plain_weight.ensures)
+    let p = (goal.at.returns-in_default c).Else-options-gt1 in
+    no-weight _ (text p) (long p) (first p) (ap said_weight (sym c.in_default.is) ∙ c.plain_weight.ensures)
 
 pub overflow_add-gap : goal.overflow_add-gap
-overflow_add-gap c = omega (arith, gap-short (text (fits (goal.at.overflow_add-gap c).In-Weight)) (weight (goal.at.overflow_add-gap c).In-Weight))
+overflow_add-gap c =
+    let p = (goal.at.overflow_add-gap c).In-Weight in
+    omega (arith, gap-short (text (fits p)) (weight p))
 
 pub slice_bounds-plain_literal-count : goal.slice_bounds-plain_literal-count
 slice_bounds-plain_literal-count c = omega (arith, room (goal.at.slice_bounds-plain_literal-count c).In-Weight)
@@ -82,9 +85,10 @@ slice_bounds-plain_literal-start c = omega (arith, room (goal.at.slice_bounds-pl
 
 pub returns-in_default-plain_literal : goal.returns-in_default-plain_literal
 returns-in_default-plain_literal c =
-    let w = read (goal.at.returns-in_default-plain_literal c).After-plain_literal in
+    let p = (goal.at.returns-in_default-plain_literal c).After-plain_literal in
+    let w = read p in
     let f = fits w in
-    no-literal (text f) (weight w) _ (long f) (first f) (ap said_literal (sym c.in_default-plain_literal.is) ∙ said (goal.at.returns-in_default-plain_literal c).After-plain_literal)
+    no-literal (text f) (weight w) _ (long f) (first f) (ap said_literal (sym c.in_default-plain_literal.is) ∙ said p)
 
 pub overflow_add-taken : goal.overflow_add-taken
 overflow_add-taken c = omega (arith, ends (goal.at.overflow_add-taken c).In-Literal)
@@ -94,16 +98,20 @@ overflow_add-taken-2 c = omega (arith, ends (goal.at.overflow_add-taken-2 c).In-
 
 pub bounds-s-taken : goal.bounds-s-taken
 bounds-s-taken c =
-    omega (arith, ends (goal.at.bounds-s-taken c).In-Literal, long (fits (read (lits (goal.at.bounds-s-taken c).In-Literal))))
+    let p = (goal.at.bounds-s-taken c).In-Literal in
+    omega (arith, ends p, long (fits (read (lits p))))
 
 pub returns-then-s-taken-le32 : goal.returns-then-s-taken-le32
 returns-then-s-taken-le32 c =
-    let w = read (lits (goal.at.returns-then-s-taken-le32 c).In-Literal) in
+    let p = (goal.at.returns-then-s-taken-le32 c).In-Literal in
+    let w = read (lits p) in
     let f = fits w in
-    two-blanks (text f) (weight w) _ (long f) (first f) (lit (goal.at.returns-then-s-taken-le32 c).In-Literal) c.if-s-taken-le32.true
+    two-blanks (text f) (weight w) _ (long f) (first f) (lit p) c.if-s-taken-le32.true
 
 pub returns : goal.returns
 returns c =
-    let w = read (lits (goal.at.returns c).In-Literal) in
+    let p = (goal.at.returns c).In-Literal in
+    let w = read (lits p) in
     let f = fits w in
-    plain-found (text f) (weight w) _ (long f) (first f) (lit (goal.at.returns c).In-Literal) _ refl refl refl refl (omega (arith, c.if-s-taken-le32.false))
+    plain-found (text f) (weight w) _ (long f) (first f) (lit p) _ refl refl refl refl
+    (omega (arith, c.if-s-taken-le32.false))

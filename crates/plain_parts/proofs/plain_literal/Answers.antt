@@ -3,7 +3,6 @@ use mathlib.Core.List.{List}
 use mathlib.Core.Path.{subst}
 use Prim.Native.Nat.{ℕ}
 use native.Mathlib.Omega.{arith}
-use borrow.Author.Rules.{rules}
 use Rattle.plain_parts.specs.InWord.{Begins, LiteralSays, LiteralIs}
 use Rattle.plain_parts.proofs.PartAnswers.{literal-short, literal-none, literal-unspaced, literal-zero, literal-found}
 use Rattle.plain_parts.proofs.plain_literal.Goals as goal
@@ -29,21 +28,28 @@ returns-then-s-lt8 c = literal-short c.args.s.now c.if-s-lt8.true
 
 pub returns-in_default : goal.returns-in_default
 returns-in_default c =
-    let s = text (goal.at.returns-in_default c).After-literal_in in
-    literal-none s (begins (goal.at.returns-in_default c).After-literal_in).long (subst (LiteralSays s) c.in_default.is (c.literal_in.ensures s (begins (goal.at.returns-in_default c).After-literal_in)))
+    let p = (goal.at.returns-in_default c).After-literal_in in
+    let s = text p in
+    literal-none s (begins p).long (subst (LiteralSays s) c.in_default.is (c.literal_in.ensures s (begins p)))
 
 pub bounds-s-taken : goal.bounds-s-taken
-bounds-s-taken c = omega (arith, (lit (goal.at.bounds-s-taken c).In-Lanes).part.short, (begins (read (goal.at.bounds-s-taken c).In-Lanes)).long)
+bounds-s-taken c =
+    let p = (goal.at.bounds-s-taken c).In-Lanes in
+    omega (arith, (lit p).part.short, (begins (read p)).long)
 
 pub returns-then-s-taken-ne32 : goal.returns-then-s-taken-ne32
 returns-then-s-taken-ne32 c =
-    literal-unspaced (text (read (goal.at.returns-then-s-taken-ne32 c).In-Lanes)) (begins (read (goal.at.returns-then-s-taken-ne32 c).In-Lanes)).long (lit (goal.at.returns-then-s-taken-ne32 c).In-Lanes) c.if-s-taken-ne32.true
+    let p = (goal.at.returns-then-s-taken-ne32 c).In-Lanes in
+    literal-unspaced (text (read p)) (begins (read p)).long (lit p) c.if-s-taken-ne32.true
 
 pub returns-then-digits-eq0 : goal.returns-then-digits-eq0
 returns-then-digits-eq0 c =
-    literal-zero (text (read (goal.at.returns-then-digits-eq0 c).In-Lanes)) (begins (read (goal.at.returns-then-digits-eq0 c).In-Lanes)).long (lit (goal.at.returns-then-digits-eq0 c).In-Lanes) c.if-s-taken-ne32.false c.if-digits-eq0.true
+    let p = (goal.at.returns-then-digits-eq0 c).In-Lanes in
+    literal-zero (text (read p)) (begins (read p)).long (lit p) c.if-s-taken-ne32.false c.if-digits-eq0.true
 
 pub returns : goal.returns
 returns c =
-    literal-found (text (read (goal.at.returns c).In-Lanes)) (begins (read (goal.at.returns c).In-Lanes)).long (lit (goal.at.returns c).In-Lanes) c.if-s-taken-ne32.false (omega (arith, c.if-digits-eq0.false))
-    (omega (arith, c.in-Lanes.known_told-1-own.given)) c.lane_value.ensures
+    let p = (goal.at.returns c).In-Lanes in
+    literal-found (text (read p)) (begins (read p)).long (lit p) c.if-s-taken-ne32.false
+    (omega (arith, c.if-digits-eq0.false))
+    (omega arith) c.lane_value.ensures

@@ -3,7 +3,6 @@ use mathlib.Core.List.{List}
 use mathlib.Core.Path.{subst}
 use Prim.Native.Nat.{ℕ}
 use native.Mathlib.Omega.{arith}
-use borrow.Author.Rules.{rules}
 use Rattle.plain_parts.specs.InWord.{Begins, WeightSays, WeightIs}
 use Rattle.plain_parts.proofs.PartAnswers.{weight-short, weight-none, weight-unspaced, weight-found}
 use Rattle.plain_parts.proofs.plain_weight.Goals as goal
@@ -29,16 +28,21 @@ returns-then-s-lt8 c = weight-short c.args.s.now c.if-s-lt8.true
 
 pub returns-in_default : goal.returns-in_default
 returns-in_default c =
-    let s = text (goal.at.returns-in_default c).After-weight_in in
-    weight-none s (begins (goal.at.returns-in_default c).After-weight_in).long (subst (WeightSays s) c.in_default.is (c.weight_in.ensures s (begins (goal.at.returns-in_default c).After-weight_in)))
+    let p = (goal.at.returns-in_default c).After-weight_in in
+    let s = text p in
+    weight-none s (begins p).long (subst (WeightSays s) c.in_default.is (c.weight_in.ensures s (begins p)))
 
 pub bounds-s-taken : goal.bounds-s-taken
-bounds-s-taken c = omega (arith, (weight (goal.at.bounds-s-taken c).In-Lanes).part.short, (begins (read (goal.at.bounds-s-taken c).In-Lanes)).long)
+bounds-s-taken c =
+    let p = (goal.at.bounds-s-taken c).In-Lanes in
+    omega (arith, (weight p).part.short, (begins (read p)).long)
 
 pub returns-then-s-taken-ne32 : goal.returns-then-s-taken-ne32
 returns-then-s-taken-ne32 c =
-    weight-unspaced (text (read (goal.at.returns-then-s-taken-ne32 c).In-Lanes)) (begins (read (goal.at.returns-then-s-taken-ne32 c).In-Lanes)).long (weight (goal.at.returns-then-s-taken-ne32 c).In-Lanes) c.if-s-taken-ne32.true
+    let p = (goal.at.returns-then-s-taken-ne32 c).In-Lanes in
+    weight-unspaced (text (read p)) (begins (read p)).long (weight p) c.if-s-taken-ne32.true
 
 pub returns : goal.returns
 returns c =
-    weight-found (text (read (goal.at.returns c).In-Lanes)) (begins (read (goal.at.returns c).In-Lanes)).long (weight (goal.at.returns c).In-Lanes) c.if-s-taken-ne32.false c.lane_value.ensures
+    let p = (goal.at.returns c).In-Lanes in
+    weight-found (text (read p)) (begins (read p)).long (weight p) c.if-s-taken-ne32.false c.lane_value.ensures

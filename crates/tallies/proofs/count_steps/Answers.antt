@@ -42,7 +42,8 @@ module _ (c : In-Line) where
   line-is : stepped found next ≡ brief_stepped (step_at (options here) (text here) (turn here).loop-refusal.at)
   line-is = sym (ap said_stepped c.in-Line.is) ∙ here.step_at.ensures
 
-  onward : Onward (options here) (text here) (turn here).loop-refusal.at (turn here).loop-refusal.rows (turn here).loop-refusal.terms
+  onward : Onward (options here) (text here) (turn here).loop-refusal.at (turn here).loop-refusal.rows
+      (turn here).loop-refusal.terms
       (turn here).loop-refusal.invariant found next line-is
   onward = tally-onward _ _ _ _ _ (turn here).loop-refusal.invariant found next line-is
 
@@ -55,21 +56,28 @@ loop-refusal-init c = counting-start _ _
 
 pub returns-in-End : goal.returns-in-End
 returns-in-End c =
-    tally-end (options (goal.at.returns-in-End c).After-step_at) (text (goal.at.returns-in-End c).After-step_at) _ _ _ (turn (goal.at.returns-in-End c).After-step_at).loop-refusal.invariant (sym (ap said_stepped c.in-End.is) ∙ c.step_at.ensures)
+    let p = (goal.at.returns-in-End c).After-step_at in
+    tally-end (options p) (text p) _ _ _ (turn p).loop-refusal.invariant
+    (sym (ap said_stepped c.in-End.is) ∙ c.step_at.ensures)
 
 pub returns-in-Refused : goal.returns-in-Refused
 returns-in-Refused c =
-    tally-refused (options (goal.at.returns-in-Refused c).After-step_at) (text (goal.at.returns-in-Refused c).After-step_at) _ _ _ (turn (goal.at.returns-in-Refused c).After-step_at).loop-refusal.invariant _
+    let p = (goal.at.returns-in-Refused c).After-step_at in
+    tally-refused (options p) (text p) _ _ _ (turn p).loop-refusal.invariant _
     (sym (ap said_stepped c.in-Refused.is) ∙ c.step_at.ensures)
 
 pub overflow_add-rows : goal.overflow_add-rows
 overflow_add-rows c = omega (arith, (onward c).few-rows, (onward c).within)
 
 pub overflow_add-terms : goal.overflow_add-terms
-overflow_add-terms c = omega (arith, c.terms_of-terms.ensures, (onward (goal.at.overflow_add-terms c).In-Line).few-terms, (onward (goal.at.overflow_add-terms c).In-Line).within)
+overflow_add-terms c =
+    let p = (goal.at.overflow_add-terms c).In-Line in
+    omega (arith, c.terms_of-terms.ensures, (onward p).few-terms, (onward p).within)
 
 pub loop-refusal-smaller : goal.loop-refusal-smaller
-loop-refusal-smaller c = omega (arith, (onward (goal.at.loop-refusal-smaller c).In-Line).rises, (onward (goal.at.loop-refusal-smaller c).In-Line).within)
+loop-refusal-smaller c =
+    let p = (goal.at.loop-refusal-smaller c).In-Line in
+    omega (arith, (onward p).rises, (onward p).within)
 
 pub loop-refusal-preserved : goal.loop-refusal-preserved
 loop-refusal-preserved c = rw c.terms_of-terms.ensures (moved (goal.at.loop-refusal-preserved c).In-Line)

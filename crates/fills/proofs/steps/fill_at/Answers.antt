@@ -63,18 +63,22 @@ slice_bounds-fill_terms-start c = within c
 
 pub returns-in-End : goal.returns-in-End
 returns-in-End c =
-    fill-ended (options (goal.at.returns-in-End c).After-step_at) (text (goal.at.returns-in-End c).After-step_at) (place (goal.at.returns-in-End c).After-step_at) _ _ (sym (ap said_stepped c.in-End.is) ∙ c.step_at.ensures)
+    let p = (goal.at.returns-in-End c).After-step_at in
+    fill-ended (options p) (text p) (place p) _ _ (sym (ap said_stepped c.in-End.is) ∙ c.step_at.ensures)
 
 pub returns-in-Refused : goal.returns-in-Refused
 returns-in-Refused c =
-    fill-stopped (options (goal.at.returns-in-Refused c).After-step_at) (text (goal.at.returns-in-Refused c).After-step_at) (place (goal.at.returns-in-Refused c).After-step_at) _ _ _ (sym (ap said_stepped c.in-Refused.is) ∙ c.step_at.ensures)
+    let p = (goal.at.returns-in-Refused c).After-step_at in
+    fill-stopped (options p) (text p) (place p) _ _ _ (sym (ap said_stepped c.in-Refused.is) ∙ c.step_at.ensures)
 
 pub returns-in-Line : goal.returns-in-Line
 returns-in-Line c =
-    let d = here (goal.at.returns-in-Line c).In-Line in
-    fill-line (options d) (text d) (place d) (weights d) (literals d) (line (goal.at.returns-in-Line c).In-Line) (behind (goal.at.returns-in-Line c).In-Line) (line-is (goal.at.returns-in-Line c).In-Line) _ _ _
+    let p = (goal.at.returns-in-Line c).In-Line in
+    let d = here p in
+    fill-line (options d) (text d) (place d) (weights d) (literals d) (line p) (behind p) (line-is p) _ _ _
     (subst
-    (λ (t : List ℕ). FillsTerms (terms_by (columns_room (weights d) (literals d)) (stepped_by 0 (statement (options d) t))) (weights d)
+    (λ (t : List ℕ). FillsTerms (terms_by (columns_room (weights d) (literals d))
+    (stepped_by 0 (statement (options d) t))) (weights d)
     (literals d)
     c.fill_terms.result c.fill_terms.new.weights c.fill_terms.new.literals) (part-is (text d) (place d))
     c.fill_terms.ensures)

@@ -58,17 +58,22 @@ module _ (c : After-term_room) where
 
 pub returns-then-term_room-terms : goal.returns-then-term_room-terms
 returns-then-term_room-terms c =
-    fill-beyond _ _ _ _ _ (line-is (goal.at.returns-then-term_room-terms c).After-term_room) (omega (arith, room (goal.at.returns-then-term_room-terms c).After-term_room, c.if-term_room-terms.true)) (search rules)
+    let p = (goal.at.returns-then-term_room-terms c).After-term_room in
+    fill-beyond _ _ _ _ _ (line-is p) (omega (arith, room p, c.if-term_room-terms.true)) (search rules)
 
 pub returns-in-End : goal.returns-in-End
 returns-in-End c =
-    fill_end (here (goal.at.returns-in-End c).After-opb_data) _ _ (sym (ap said_statement c.in-End.is) ∙ c.opb_data.ensures)
+    let p = (goal.at.returns-in-End c).After-opb_data in
+    fill_end (here p) _ _ (sym (ap said_statement c.in-End.is) ∙ c.opb_data.ensures)
 
 pub returns-in-Refused : goal.returns-in-Refused
 returns-in-Refused c =
-    fill-refused (here (goal.at.returns-in-Refused c).After-opb_data) _ _ _ (sym (ap said_statement c.in-Refused.is) ∙ c.opb_data.ensures)
+    let p = (goal.at.returns-in-Refused c).After-opb_data in
+    fill-refused (here p) _ _ _ (sym (ap said_statement c.in-Refused.is) ∙ c.opb_data.ensures)
 
 pub returns-else-term_room-terms : goal.returns-else-term_room-terms
 returns-else-term_room-terms c =
-    let i = line-is (goal.at.returns-else-term_room-terms c).After-term_room in
-    fill-whole _ _ _ _ _ i (omega (arith, room (goal.at.returns-else-term_room-terms c).After-term_room, c.if-term_room-terms.false)) _ _ _ (statement-met _ _ _ _ i.is) c.walk_statement.ensures.filled
+    let p = (goal.at.returns-else-term_room-terms c).After-term_room in
+    let i = line-is p in
+    fill-whole _ _ _ _ _ i (omega (arith, room p, c.if-term_room-terms.false)) _ _ _ (statement-met _ _ _ _ i.is)
+    c.walk_statement.ensures.filled

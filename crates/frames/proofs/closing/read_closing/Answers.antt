@@ -49,7 +49,8 @@ slice_bounds-line_ending_of-start c = gap_within c
 pub overflow_add-result : goal.overflow_add-result
 overflow_add-result c =
     let e = here c in
-    omega (arith, gap_within e, line-is c, ending-within (drop (gap e + 1) (text e)), length-drop (gap e + 1) (text e))
+    omega (arith, gap_within e, line-is c, ending-within (drop (gap e + 1) (text e)), length-drop (gap e + 1)
+    (text e))
 
 pub returns-then-s-eq59 : goal.returns-then-s-eq59
 returns-then-s-eq59 c =

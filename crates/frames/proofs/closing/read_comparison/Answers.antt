@@ -84,7 +84,8 @@ module _ (c : In-Number) where
   number-end-within : number-end ≤ length (number-text at-number)
   number-end-within =
       let b = behind-blanks at-number in
-      omega (arith, blanks-end-within b, (number-within _ number-got).1, length-drop (blanks-end b) (number-text at-number))
+      omega (arith, blanks-end-within b, (number-within _ number-got).1, length-drop (blanks-end b)
+      (number-text at-number))
 
 module _ (c : After-read_ending) where
   abbrev behind-number : In-Number
@@ -140,10 +141,11 @@ slice_bounds-read_number-start c = blanks-end-within c
 
 pub returns-in_default-read_number : goal.returns-in_default-read_number
 returns-in_default-read_number c =
-    let e = behind-blanks (goal.at.returns-in_default-read_number c).After-read_number in
+    let p = (goal.at.returns-in_default-read_number c).After-read_number in
+    let e = behind-blanks p in
     let f = behind-operator e in
     sym (comparison-no-number (text f) (found f) (operator-end f) e.blanks_of.result (operator-got f) (blanks-got e)
-    (number_by (goal.at.returns-in_default-read_number c).After-read_number ∙ ap said c.in_default-read_number.is))
+    (number_by p ∙ ap said c.in_default-read_number.is))
 
 pub overflow_add-b : goal.overflow_add-b
 overflow_add-b c = let h = number-end-within c in omega arith
@@ -156,12 +158,13 @@ slice_bounds-read_ending-start c = number-end-within c
 
 pub returns-in_default-read_ending : goal.returns-in_default-read_ending
 returns-in_default-read_ending c =
-    let d = behind-number (goal.at.returns-in_default-read_ending c).After-read_ending in
+    let p = (goal.at.returns-in_default-read_ending c).After-read_ending in
+    let d = behind-number p in
     let e = behind-blanks (at-number d) in
     let f = behind-operator e in
     sym (comparison-no-ending (text f) (found f) (operator-end f) e.blanks_of.result (operator-got f) (blanks-got e)
     (value d) (number-bytes d) (number-got d)
-    (ending-by (goal.at.returns-in_default-read_ending c).After-read_ending ∙ ap said_ending c.in_default-read_ending.is))
+    (ending-by p ∙ ap said_ending c.in_default-read_ending.is))
 
 pub overflow_add-result : goal.overflow_add-result
 overflow_add-result c =

@@ -53,7 +53,8 @@ slice_bounds-read_closing-start c = gap_within c
 
 pub returns-in_default : goal.returns-in_default
 returns-in_default c =
-    sym (ending-by (goal.at.returns-in_default c).After-read_closing ∙ ap (λ (r : EndingRead). more (gap (here (goal.at.returns-in_default c).After-read_closing)) (said_ending r)) c.in_default.is)
+    let p = (goal.at.returns-in_default c).After-read_closing in
+    sym (ending-by p ∙ ap (λ (r : EndingRead). more (gap (here p)) (said_ending r)) c.in_default.is)
 
 pub overflow_add-result : goal.overflow_add-result
 overflow_add-result c = omega (arith, within-ending.most (text (here (closed c))) _ _ (ending-got c))

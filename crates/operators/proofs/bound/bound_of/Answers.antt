@@ -1,6 +1,5 @@
 -- `bound_of` meets its contract: the least number has none below it, the greatest none above, and each other bound is
 -- in 64 bits (proofs/BoundLaws.antt).
-use borrow.Author.Rules.{rules}
 use mathlib.Core.Path.{◌≡◌, ap}
 use native.Mathlib.Omega.{arith}
 use Rattle.definitions.specs.declared.OpbOperator.{OpbOperator}
@@ -43,13 +42,17 @@ more-in : (c : Else-number-eq-GREATEST) → SFits w64 (c.args.number +ℤ pos 1)
 more-in c = more-fits _ c.ranges.number (λ e. c.if-number-eq-GREATEST.false (ap (of_z w64) e))
 
 pub returns-then-number-eq-LEAST : goal.returns-then-number-eq-LEAST
-returns-then-number-eq-LEAST c = rw (less-bound (goal.at.returns-then-number-eq-LEAST c).In-LT, is-least (goal.at.returns-then-number-eq-LEAST c).In-LT c.if-number-eq-LEAST.true) least-less
+returns-then-number-eq-LEAST c =
+    let p = (goal.at.returns-then-number-eq-LEAST c).In-LT in
+    rw (less-bound p, is-least p c.if-number-eq-LEAST.true) least-less
 
 pub overflow_sub-result : goal.overflow_sub-result
 overflow_sub-result c = rw (to_z-of_z c.ranges.number) (less-in c)
 
 pub returns-then-number-eq-GREATEST : goal.returns-then-number-eq-GREATEST
-returns-then-number-eq-GREATEST c = rw (more-bound (goal.at.returns-then-number-eq-GREATEST c).In-GT, is-greatest (goal.at.returns-then-number-eq-GREATEST c).In-GT c.if-number-eq-GREATEST.true) greatest-more
+returns-then-number-eq-GREATEST c =
+    let p = (goal.at.returns-then-number-eq-GREATEST c).In-GT in
+    rw (more-bound p, is-greatest p c.if-number-eq-GREATEST.true) greatest-more
 
 pub overflow_add-result : goal.overflow_add-result
 overflow_add-result c = rw (to_z-of_z c.ranges.number) (more-in c)
@@ -62,11 +65,13 @@ returns-in-GE c = rw (to_z-of_z c.ranges.number, c.in-GE.is) (in-compared _ c.ra
 
 pub returns-else-number-eq-LEAST : goal.returns-else-number-eq-LEAST
 returns-else-number-eq-LEAST c =
-    rw (to_z-of_z c.ranges.number, to_z-of_z (less-in c), less-bound (goal.at.returns-else-number-eq-LEAST c).In-LT) (in-compared _ (less-in c))
+    let p = (goal.at.returns-else-number-eq-LEAST c).In-LT in
+    rw (to_z-of_z c.ranges.number, to_z-of_z (less-in c), less-bound p) (in-compared _ (less-in c))
 
 pub returns-else-number-eq-GREATEST : goal.returns-else-number-eq-GREATEST
 returns-else-number-eq-GREATEST c =
-    rw (to_z-of_z c.ranges.number, to_z-of_z (more-in c), more-bound (goal.at.returns-else-number-eq-GREATEST c).In-GT) (in-compared _ (more-in c))
+    let p = (goal.at.returns-else-number-eq-GREATEST c).In-GT in
+    rw (to_z-of_z c.ranges.number, to_z-of_z (more-in c), more-bound p) (in-compared _ (more-in c))
 
 pub returns-in-EQ : goal.returns-in-EQ
 returns-in-EQ c = rw (to_z-of_z c.ranges.number, c.in-EQ.is) (in-compared _ c.ranges.number)

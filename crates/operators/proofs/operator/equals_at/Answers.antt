@@ -1,7 +1,6 @@
 -- `equals_at` meets its contract: whether `=` stands behind the first byte, by the byte there.
 use mathlib.Core.Path.{sym}
 use native.Mathlib.Omega.{arith}
-use borrow.Author.Rules.{rules}
 use Rattle.definitions.specs.Bytes.{equals}
 use Rattle.blanks.proofs.At.{at_none, at-is}
 use Rattle.operators.proofs.operator.equals_at.Goals as goal

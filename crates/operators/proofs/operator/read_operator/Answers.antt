@@ -2,7 +2,6 @@
 use mathlib.Core.Bool.{true, false}
 use mathlib.Core.Path.{sym, ◌∙◌}
 use native.Mathlib.Omega.{arith}
-use borrow.Author.Rules.{rules}
 use Rattle.operators.proofs.Operators.{operator-empty, operator-less, operator-greater, operator-equals, operator-other}
 use Rattle.operators.proofs.operator.read_operator.Goals as goal
 

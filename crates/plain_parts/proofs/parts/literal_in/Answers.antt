@@ -3,7 +3,6 @@
 use mathlib.Core.List.{List}
 use Prim.Native.Nat.{ℕ}
 use native.Mathlib.Omega.{arith}
-use borrow.Author.Rules.{rules}
 use Rattle.plain_parts.specs.InWord.{Begins}
 use Rattle.plain_parts.proofs.Gaps.{AtLane, gap_at_lem, literal-marks}
 use Rattle.plain_parts.proofs.PlainLanes.{lanes-between}
@@ -24,29 +23,41 @@ module _ (c : Else-gap-gt60) where
   at = gap_at_lem literal-marks c.first_gap-gap.ensures (omega (arith, c.if-gap-gt60.false))
 
 pub returns-then-gap-gt60 : goal.returns-then-gap-gt60
-returns-then-gap-gt60 c = λ s b. literal-far (front (goal.at.returns-then-gap-gt60 c).After-first_gap-gap s b) c.if-gap-gt60.true
+returns-then-gap-gt60 c =
+    let p = (goal.at.returns-then-gap-gt60 c).After-first_gap-gap in
+    λ s b. literal-far (front p s b) c.if-gap-gt60.true
 
 pub overflow_sub-gap : goal.overflow_sub-gap
 overflow_sub-gap c = let a = at (goal.at.overflow_sub-gap c).Else-gap-gt60 in omega (arith, a.is, a.least)
 
 pub digits_in-requires : goal.digits_in-requires
-digits_in-requires c = let a = at (goal.at.digits_in-requires c).Else-gap-gt60 in lanes-between 1 a (omega (arith, a.is, a.least))
+digits_in-requires c =
+    let p = (goal.at.digits_in-requires c).Else-gap-gt60 in
+    let a = at p in lanes-between 1 a (omega (arith, a.is, a.least))
 
 pub returns-then-word-eq-X : goal.returns-then-word-eq-X
-returns-then-word-eq-X c = λ s b.
-    letter-says (front (goal.at.returns-then-word-eq-X c).After-first_gap-gap s b) c.if-word-eq-X.true (omega (arith, c.if-gap-gt60.false)) c.digits_in.result
+returns-then-word-eq-X c =
+    let p = (goal.at.returns-then-word-eq-X c).After-first_gap-gap in
+    λ s b.
+    letter-says (front p s b) c.if-word-eq-X.true (omega (arith, c.if-gap-gt60.false)) c.digits_in.result
     c.digits_in.ensures
 
 pub returns-then-word-ne-TILDE_X : goal.returns-then-word-ne-TILDE_X
 returns-then-word-ne-TILDE_X c = λ s b. literal-other s _ b.bytes c.if-word-eq-X.false c.if-word-ne-TILDE_X.true
 
 pub returns-then-gap-lt24 : goal.returns-then-gap-lt24
-returns-then-gap-lt24 c = λ s b. tilde-near (front (goal.at.returns-then-gap-lt24 c).After-first_gap-gap s b) c.if-word-ne-TILDE_X.false c.if-gap-lt24.true
+returns-then-gap-lt24 c =
+    let p = (goal.at.returns-then-gap-lt24 c).After-first_gap-gap in
+    λ s b. tilde-near (front p s b) c.if-word-ne-TILDE_X.false c.if-gap-lt24.true
 
 pub digits_in-requires-2 : goal.digits_in-requires-2
-digits_in-requires-2 c = let a = at (goal.at.digits_in-requires-2 c).Else-gap-gt60 in lanes-between 2 a (omega (arith, a.is, c.if-gap-lt24.false))
+digits_in-requires-2 c =
+    let p = (goal.at.digits_in-requires-2 c).Else-gap-gt60 in
+    let a = at p in lanes-between 2 a (omega (arith, a.is, c.if-gap-lt24.false))
 
 pub returns : goal.returns
-returns c = λ s b.
-    tilde-says (front (goal.at.returns c).After-first_gap-gap s b) c.if-word-ne-TILDE_X.false (omega (arith, c.if-gap-gt60.false)) c.if-gap-lt24.false
+returns c =
+    let p = (goal.at.returns c).After-first_gap-gap in
+    λ s b.
+    tilde-says (front p s b) c.if-word-ne-TILDE_X.false (omega (arith, c.if-gap-gt60.false)) c.if-gap-lt24.false
     c.digits_in-2.result c.digits_in-2.ensures

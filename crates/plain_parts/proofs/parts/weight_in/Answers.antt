@@ -3,7 +3,6 @@
 use mathlib.Core.List.{List}
 use Prim.Native.Nat.{ℕ}
 use native.Mathlib.Omega.{arith}
-use borrow.Author.Rules.{rules}
 use Rattle.plain_parts.specs.InWord.{Begins}
 use Rattle.plain_parts.proofs.Gaps.{AtLane, gap_at_lem, weight-marks}
 use Rattle.plain_parts.proofs.PlainLanes.{lanes-between}
@@ -27,26 +26,38 @@ pub returns-then-word-gt-NINE : goal.returns-then-word-gt-NINE
 returns-then-word-gt-NINE c = λ s b. weight-above s _ b.bytes c.if-word-gt-NINE.true
 
 pub returns-then-gap-gt60 : goal.returns-then-gap-gt60
-returns-then-gap-gt60 c = λ s b. weight-far (front (goal.at.returns-then-gap-gt60 c).After-first_gap-gap s b) c.if-gap-gt60.true
+returns-then-gap-gt60 c =
+    let p = (goal.at.returns-then-gap-gt60 c).After-first_gap-gap in
+    λ s b. weight-far (front p s b) c.if-gap-gt60.true
 
 pub returns-then-gap-lt16 : goal.returns-then-gap-lt16
-returns-then-gap-lt16 c = λ s b. minus-near (front (goal.at.returns-then-gap-lt16 c).After-first_gap-gap s b) c.if-word-eq-MINUS.true c.if-gap-lt16.true
+returns-then-gap-lt16 c =
+    let p = (goal.at.returns-then-gap-lt16 c).After-first_gap-gap in
+    λ s b. minus-near (front p s b) c.if-word-eq-MINUS.true c.if-gap-lt16.true
 
 pub digits_in-requires : goal.digits_in-requires
-digits_in-requires c = let a = at (goal.at.digits_in-requires c).Else-gap-gt60 in lanes-between 1 a (omega (arith, a.is, c.if-gap-lt16.false))
+digits_in-requires c =
+    let p = (goal.at.digits_in-requires c).Else-gap-gt60 in
+    let a = at p in lanes-between 1 a (omega (arith, a.is, c.if-gap-lt16.false))
 
 pub returns-then-word-eq-MINUS : goal.returns-then-word-eq-MINUS
-returns-then-word-eq-MINUS c = λ s b.
-    minus-says (front (goal.at.returns-then-word-eq-MINUS c).After-first_gap-gap s b) c.if-word-eq-MINUS.true (omega (arith, c.if-gap-gt60.false)) c.if-gap-lt16.false
+returns-then-word-eq-MINUS c =
+    let p = (goal.at.returns-then-word-eq-MINUS c).After-first_gap-gap in
+    λ s b.
+    minus-says (front p s b) c.if-word-eq-MINUS.true (omega (arith, c.if-gap-gt60.false)) c.if-gap-lt16.false
     c.digits_in.result c.digits_in.ensures
 
 pub overflow_sub-gap-2 : goal.overflow_sub-gap-2
 overflow_sub-gap-2 c = omega (arith, (at (goal.at.overflow_sub-gap-2 c).Else-gap-gt60).is)
 
 pub digits_in-requires-2 : goal.digits_in-requires-2
-digits_in-requires-2 c = let a = at (goal.at.digits_in-requires-2 c).Else-gap-gt60 in lanes-between 0 a (omega (arith, a.is, a.least))
+digits_in-requires-2 c =
+    let p = (goal.at.digits_in-requires-2 c).Else-gap-gt60 in
+    let a = at p in lanes-between 0 a (omega (arith, a.is, a.least))
 
 pub returns : goal.returns
-returns c = λ s b.
-    unsigned-says (front (goal.at.returns c).After-first_gap-gap s b) c.if-word-eq-MINUS.false (omega (arith, c.if-gap-gt60.false)) c.digits_in-2.result
+returns c =
+    let p = (goal.at.returns c).After-first_gap-gap in
+    λ s b.
+    unsigned-says (front p s b) c.if-word-eq-MINUS.false (omega (arith, c.if-gap-gt60.false)) c.digits_in-2.result
     c.digits_in-2.ensures

@@ -1,7 +1,6 @@
 -- `digits_in` meets its contract: the lanes are digits exactly if the word's bytes are, and then their value is the
 -- lanes' (proofs/DigitLanes.antt).
 use mathlib.Core.Path.{refl, sym, ◌∙◌}
-use borrow.Author.Rules.{rules}
 use Rattle.plain_parts.proofs.DigitLanes.{digits-test, digits_are}
 use Rattle.plain_parts.proofs.word.digits_in.Goals as goal
 

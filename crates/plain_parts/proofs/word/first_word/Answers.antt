@@ -2,7 +2,6 @@
 use mathlib.Core.Path.{subst}
 use Prim.Native.Nat.{ℕ}
 use mathlib.Core.List.{List}
-use borrow.Author.Rules.{rules}
 use Rattle.definitions.proofs.Parts.{part-is}
 use Rattle.plain_parts.specs.Lanes.{Loaded}
 use Rattle.plain_parts.proofs.LaneLaws.{word-is}

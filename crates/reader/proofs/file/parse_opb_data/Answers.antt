@@ -27,11 +27,13 @@ module _ (c : After-fitted) where
 
 pub fill_file-requires : goal.fill_file-requires
 fill_file-requires c =
-    ready _ _ (lent (goal.at.fill_file-requires c).After-fitted) _ (sym (ap said_counted c.in-Table.is) ∙ said (goal.at.fill_file-requires c).After-fitted)
+    let p = (goal.at.fill_file-requires c).After-fitted in
+    ready _ _ (lent p) _ (sym (ap said_counted c.in-Table.is) ∙ said p)
 
 pub returns-in-Refused : goal.returns-in-Refused
 returns-in-Refused c =
-    read-refused _ _ (lent (goal.at.returns-in-Refused c).After-fitted) _ (sym (ap said_counted c.in-Refused.is) ∙ said (goal.at.returns-in-Refused c).After-fitted)
+    let p = (goal.at.returns-in-Refused c).After-fitted in
+    read-refused _ _ (lent p) _ (sym (ap said_counted c.in-Refused.is) ∙ said p)
 
 pub returns-in-Table : goal.returns-in-Table
 returns-in-Table c =

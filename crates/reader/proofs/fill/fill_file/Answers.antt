@@ -44,7 +44,8 @@ module _ (c : At-loop-entry) where
   good = good_of start.args.options text lent start.requires.given start.requires.reads
 
   abbrev filled_so : Table
-  filled_so = table c.loop-entry.kinds c.loop-entry.firsts c.loop-entry.counts c.loop-entry.bounds c.loop-entry.weights c.loop-entry.literals
+  filled_so = table c.loop-entry.kinds c.loop-entry.firsts c.loop-entry.counts c.loop-entry.bounds
+      c.loop-entry.weights c.loop-entry.literals
 
   lengths : Lengths filled_so lent
   lengths = fills-lengths _ _ _ good _ _ _ _ c.loop-entry.invariant
@@ -60,7 +61,8 @@ module _ (c : After-walk_statement) where
   abbrev turn : At-loop-entry
   turn = (goal.at.After-walk_statement c).At-loop-entry
 
-  left : StatementWalked (start turn).args.options (drop (place turn) (text turn)) (drop turn.loop-entry.term turn.loop-entry.weights)
+  left : StatementWalked (start turn).args.options (drop (place turn) (text turn))
+      (drop turn.loop-entry.term turn.loop-entry.weights)
       (drop turn.loop-entry.term turn.loop-entry.literals)
       c.walk_statement.result c.walk_statement.new.weights c.walk_statement.new.literals
   left =
@@ -84,30 +86,44 @@ module _ (c : In-Line) where
   said : item found bytes ≡ said_statement here.walk_statement.result
   said = sym (ap said_statement c.in-Line.is)
 
-  moves : LineMoves _ _ _ (good (turn here)) _ _ _ _ (turn here).loop-entry.invariant here.walk_statement.result _ _ (left here) found bytes said
+  moves : LineMoves _ _ _ (good (turn here)) _ _ _ _ (turn here).loop-entry.invariant here.walk_statement.result _ _
+      (left here) found bytes said
   moves =
-      fills-moves _ _ _ (good (turn here)) _ _ _ _ (turn here).loop-entry.invariant here.walk_statement.result _ _ (left here) found bytes said
+      fills-moves _ _ _ (good (turn here)) _ _ _ _ (turn here).loop-entry.invariant here.walk_statement.result _ _
+      (left here) found bytes said
 
 pub loop-entry-init : goal.loop-entry-init
 loop-entry-init c = fills-start _ _ _
 
 pub offset_bounds-weights-term : goal.offset_bounds-weights-term
-offset_bounds-weights-term c = omega (arith, heavy (goal.at.offset_bounds-weights-term c).At-loop-entry, (start (goal.at.offset_bounds-weights-term c).At-loop-entry).well_formed)
+offset_bounds-weights-term c =
+    let p = (goal.at.offset_bounds-weights-term c).At-loop-entry in
+    omega (arith, heavy p, (start p).well_formed)
 
 pub slice_bounds-walk_statement-count-in-loop-entry : goal.slice_bounds-walk_statement-count-in-loop-entry
-slice_bounds-walk_statement-count-in-loop-entry c = omega (arith, (lengths (goal.at.slice_bounds-walk_statement-count-in-loop-entry c).At-loop-entry).weights, heavy (goal.at.slice_bounds-walk_statement-count-in-loop-entry c).At-loop-entry)
+slice_bounds-walk_statement-count-in-loop-entry c =
+    let p = (goal.at.slice_bounds-walk_statement-count-in-loop-entry c).At-loop-entry in
+    omega (arith, (lengths p).weights, heavy p)
 
 pub slice_bounds-walk_statement-start-in-loop-entry : goal.slice_bounds-walk_statement-start-in-loop-entry
-slice_bounds-walk_statement-start-in-loop-entry c = omega (arith, (lengths (goal.at.slice_bounds-walk_statement-start-in-loop-entry c).At-loop-entry).weights, heavy (goal.at.slice_bounds-walk_statement-start-in-loop-entry c).At-loop-entry)
+slice_bounds-walk_statement-start-in-loop-entry c =
+    let p = (goal.at.slice_bounds-walk_statement-start-in-loop-entry c).At-loop-entry in
+    omega (arith, (lengths p).weights, heavy p)
 
 pub offset_bounds-literals-term : goal.offset_bounds-literals-term
-offset_bounds-literals-term c = omega (arith, known (goal.at.offset_bounds-literals-term c).At-loop-entry, (start (goal.at.offset_bounds-literals-term c).At-loop-entry).well_formed)
+offset_bounds-literals-term c =
+    let p = (goal.at.offset_bounds-literals-term c).At-loop-entry in
+    omega (arith, known p, (start p).well_formed)
 
 pub slice_bounds-walk_statement-count-in-loop-entry-2 : goal.slice_bounds-walk_statement-count-in-loop-entry-2
-slice_bounds-walk_statement-count-in-loop-entry-2 c = omega (arith, (lengths (goal.at.slice_bounds-walk_statement-count-in-loop-entry-2 c).At-loop-entry).literals, known (goal.at.slice_bounds-walk_statement-count-in-loop-entry-2 c).At-loop-entry)
+slice_bounds-walk_statement-count-in-loop-entry-2 c =
+    let p = (goal.at.slice_bounds-walk_statement-count-in-loop-entry-2 c).At-loop-entry in
+    omega (arith, (lengths p).literals, known p)
 
 pub slice_bounds-walk_statement-start-in-loop-entry-2 : goal.slice_bounds-walk_statement-start-in-loop-entry-2
-slice_bounds-walk_statement-start-in-loop-entry-2 c = omega (arith, (lengths (goal.at.slice_bounds-walk_statement-start-in-loop-entry-2 c).At-loop-entry).literals, known (goal.at.slice_bounds-walk_statement-start-in-loop-entry-2 c).At-loop-entry)
+slice_bounds-walk_statement-start-in-loop-entry-2 c =
+    let p = (goal.at.slice_bounds-walk_statement-start-in-loop-entry-2 c).At-loop-entry in
+    omega (arith, (lengths p).literals, known p)
 
 pub shape_of-kinds-in_default : goal.shape_of-kinds-in_default
 shape_of-kinds-in_default c = (lengths (turn (goal.at.shape_of-kinds-in_default c).After-walk_statement)).kinds
@@ -123,59 +139,85 @@ shape_of-bounds-in_default c = (lengths (turn (goal.at.shape_of-bounds-in_defaul
 
 pub shape_of-weights-in_default : goal.shape_of-weights-in_default
 shape_of-weights-in_default c =
-    let l = (turn (goal.at.shape_of-weights-in_default c).After-walk_statement).loop-entry in
+    let p = (goal.at.shape_of-weights-in_default c).After-walk_statement in
+    let l = (turn p).loop-entry in
     same_len_mid l.term (length l.weights - l.term) l.weights c.walk_statement.new.weights
-    c.walk_statement.auto.weights ∙ (lengths (turn (goal.at.shape_of-weights-in_default c).After-walk_statement)).weights
+    c.walk_statement.auto.weights ∙ (lengths (turn p)).weights
 
 pub shape_of-literals-in_default : goal.shape_of-literals-in_default
 shape_of-literals-in_default c =
-    let l = (turn (goal.at.shape_of-literals-in_default c).After-walk_statement).loop-entry in
+    let p = (goal.at.shape_of-literals-in_default c).After-walk_statement in
+    let l = (turn p).loop-entry in
     same_len_mid l.term (length l.literals - l.term) l.literals c.walk_statement.new.literals
-    c.walk_statement.auto.literals ∙ (lengths (turn (goal.at.shape_of-literals-in_default c).After-walk_statement)).literals
+    c.walk_statement.auto.literals ∙ (lengths (turn p)).literals
 
 pub returns-in_default : goal.returns-in_default
 returns-in_default c =
-    fills-done _ _ _ (good (turn (goal.at.returns-in_default c).After-walk_statement)) _ _ _ _ (turn (goal.at.returns-in_default c).After-walk_statement).loop-entry.invariant c.walk_statement.result _ _ (left (goal.at.returns-in_default c).After-walk_statement) (opened c.in_default.in_default-own.keys2)
+    let p = (goal.at.returns-in_default c).After-walk_statement in
+    fills-done _ _ _ (good (turn p)) _ _ _ _ (turn p).loop-entry.invariant c.walk_statement.result _ _ (left p)
+    (search rules)
 
 pub bounds-kinds-row : goal.bounds-kinds-row
 bounds-kinds-row c = let m = moves c in let l = lengths (turn (here c)) in omega arith
 
 pub overflow_add-at : goal.overflow_add-at
-overflow_add-at c = let m = moves (goal.at.overflow_add-at c).In-Line in omega (arith, (start (turn (here (goal.at.overflow_add-at c).In-Line))).well_formed)
+overflow_add-at c =
+    let p = (goal.at.overflow_add-at c).In-Line in
+    let m = moves p in omega (arith, (start (turn (here p))).well_formed)
 
 pub offset_bounds-firsts-row : goal.offset_bounds-firsts-row
-offset_bounds-firsts-row c = let m = moves (goal.at.offset_bounds-firsts-row c).In-Line in omega (arith, (start (turn (here (goal.at.offset_bounds-firsts-row c).In-Line))).well_formed)
+offset_bounds-firsts-row c =
+    let p = (goal.at.offset_bounds-firsts-row c).In-Line in
+    let m = moves p in omega (arith, (start (turn (here p))).well_formed)
 
 pub bounds-firsts-row : goal.bounds-firsts-row
-bounds-firsts-row c = let m = moves (goal.at.bounds-firsts-row c).In-Line in let l = lengths (turn (here (goal.at.bounds-firsts-row c).In-Line)) in omega arith
+bounds-firsts-row c =
+    let p = (goal.at.bounds-firsts-row c).In-Line in
+    let m = moves p in let l = lengths (turn (here p)) in omega arith
 
 pub offset_bounds-counts-row : goal.offset_bounds-counts-row
-offset_bounds-counts-row c = let m = moves (goal.at.offset_bounds-counts-row c).In-Line in omega (arith, (start (turn (here (goal.at.offset_bounds-counts-row c).In-Line))).well_formed)
+offset_bounds-counts-row c =
+    let p = (goal.at.offset_bounds-counts-row c).In-Line in
+    let m = moves p in omega (arith, (start (turn (here p))).well_formed)
 
 pub bounds-counts-row : goal.bounds-counts-row
-bounds-counts-row c = let m = moves (goal.at.bounds-counts-row c).In-Line in let l = lengths (turn (here (goal.at.bounds-counts-row c).In-Line)) in omega arith
+bounds-counts-row c =
+    let p = (goal.at.bounds-counts-row c).In-Line in
+    let m = moves p in let l = lengths (turn (here p)) in omega arith
 
 pub offset_bounds-bounds-row : goal.offset_bounds-bounds-row
-offset_bounds-bounds-row c = let m = moves (goal.at.offset_bounds-bounds-row c).In-Line in omega (arith, (start (turn (here (goal.at.offset_bounds-bounds-row c).In-Line))).well_formed)
+offset_bounds-bounds-row c =
+    let p = (goal.at.offset_bounds-bounds-row c).In-Line in
+    let m = moves p in omega (arith, (start (turn (here p))).well_formed)
 
 pub bounds-bounds-row : goal.bounds-bounds-row
-bounds-bounds-row c = let m = moves (goal.at.bounds-bounds-row c).In-Line in let l = lengths (turn (here (goal.at.bounds-bounds-row c).In-Line)) in omega arith
+bounds-bounds-row c =
+    let p = (goal.at.bounds-bounds-row c).In-Line in
+    let m = moves p in let l = lengths (turn (here p)) in omega arith
 
 pub overflow_add-row : goal.overflow_add-row
-overflow_add-row c = let m = moves (goal.at.overflow_add-row c).In-Line in omega (arith, (start (turn (here (goal.at.overflow_add-row c).In-Line))).well_formed)
+overflow_add-row c =
+    let p = (goal.at.overflow_add-row c).In-Line in
+    let m = moves p in omega (arith, (start (turn (here p))).well_formed)
 
 pub overflow_add-term : goal.overflow_add-term
-overflow_add-term c = let m = moves (goal.at.overflow_add-term c).In-Line in omega (arith, c.terms_of-term.ensures, (start (turn (here (goal.at.overflow_add-term c).In-Line))).well_formed)
+overflow_add-term c =
+    let p = (goal.at.overflow_add-term c).In-Line in
+    let m = moves p in omega (arith, c.terms_of-term.ensures, (start (turn (here p))).well_formed)
 
 pub overflow_add-at-in-loop-entry : goal.overflow_add-at-in-loop-entry
-overflow_add-at-in-loop-entry c = let m = moves (goal.at.overflow_add-at-in-loop-entry c).In-Line in omega (arith, (start (turn (here (goal.at.overflow_add-at-in-loop-entry c).In-Line))).well_formed)
+overflow_add-at-in-loop-entry c =
+    let p = (goal.at.overflow_add-at-in-loop-entry c).In-Line in
+    let m = moves p in omega (arith, (start (turn (here p))).well_formed)
 
 pub loop-entry-smaller : goal.loop-entry-smaller
 loop-entry-smaller c = let m = moves (goal.at.loop-entry-smaller c).In-Line in omega arith
 
 pub loop-entry-preserved : goal.loop-entry-preserved
 loop-entry-preserved c =
-    let f = here (goal.at.loop-entry-preserved c).In-Line in
-    let q : SFits w64 (found (goal.at.loop-entry-preserved c).In-Line).bound = sfits_of (search rules) in
+    let p = (goal.at.loop-entry-preserved c).In-Line in
+    let f = here p in
+    let q : SFits w64 (found p).bound = sfits_of (search rules) in
     rw (to_z-of_z q, c.first_of.ensures, c.terms_of-term.ensures)
-    (fills-more _ _ _ (good (turn f)) _ _ _ _ (turn f).loop-entry.invariant f.walk_statement.result _ _ (left f) (found (goal.at.loop-entry-preserved c).In-Line) (bytes (goal.at.loop-entry-preserved c).In-Line) (said (goal.at.loop-entry-preserved c).In-Line))
+    (fills-more _ _ _ (good (turn f)) _ _ _ _ (turn f).loop-entry.invariant f.walk_statement.result _ _ (left f)
+    (found p) (bytes p) (said p))

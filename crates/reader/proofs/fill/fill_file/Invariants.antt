@@ -23,7 +23,8 @@ use Rattle.reader.proofs.fill.fill_file.Given as goal
 
 abbrev pub invariant-loop-entry : goal.invariant-loop-entry
 invariant-loop-entry l =
-    Fills l.options l.s (table l.initial.kinds l.initial.firsts l.initial.counts l.initial.bounds l.initial.weights l.initial.literals) l.at l.row l.term
+    Fills l.options l.s (table l.initial.kinds l.initial.firsts l.initial.counts l.initial.bounds l.initial.weights
+    l.initial.literals) l.at l.row l.term
     (table l.kinds l.firsts l.counts l.bounds l.weights l.literals)
 
 abbrev pub decreases-loop-entry : goal.decreases-loop-entry

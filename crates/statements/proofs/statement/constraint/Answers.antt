@@ -57,7 +57,8 @@ module _ (c : After-close_constraint) where
       ≡ closed_by (start told).args.options (terms told) (size told) (comparison (drop (count told) (text told)))
   closed =
       c.close_constraint.ensures
-      ∙ ap (λ (t : List ℕ). closed_by (start told).args.options (terms told) (size told) (comparison t)) (part-is (text told) (count told))
+      ∙ ap (λ (t : List ℕ). closed_by (start told).args.options (terms told) (size told) (comparison t))
+      (part-is (text told) (count told))
 
 pub behind-requires : goal.behind-requires
 behind-requires c =
@@ -78,8 +79,9 @@ returns-in-Refused c =
 
 pub returns-in-Sum : goal.returns-in-Sum
 returns-in-Sum c =
-    let d = told (goal.at.returns-in-Sum c).After-close_constraint in
+    let p = (goal.at.returns-in-Sum c).After-close_constraint in
+    let d = told p in
     record {
-      answer = c.behind.ensures ∙ ap (more (count d)) (closed (goal.at.returns-in-Sum c).After-close_constraint) ∙ constraint-sum _ (text d) _ _ _ (sum_is d);
+      answer = c.behind.ensures ∙ ap (more (count d)) (closed p) ∙ constraint-sum _ (text d) _ _ _ (sum_is d);
       filled = d.weighted_lit_sum.ensures.filled;
     }

@@ -54,7 +54,8 @@ module _ (c : After-weighted_lit_sum) where
       ≡ summed (sum (start behind-min).args.options (drop (min-end behind-min) (text behind-min)))
   sum_said =
       c.weighted_lit_sum.ensures.answer
-      ∙ ap (λ (t : List ℕ). summed (sum (start behind-min).args.options t)) (part-is (text behind-min) (min-end behind-min))
+      ∙ ap (λ (t : List ℕ). summed (sum (start behind-min).args.options t))
+      (part-is (text behind-min) (min-end behind-min))
 
   sum-put : TermsPut (goal_met (start behind-min).args.options (text behind-min)) (start behind-min).args.weights.now
       (start behind-min).args.literals.now
@@ -130,10 +131,12 @@ module _ (c : After-close_objective) where
   end = from told + count told
 
   closed : said_row c.close_objective.result
-      ≡ ended_by (start (behind-min (at_sum told))).args.options (terms told) (size told) (ending (drop end (whole told)))
+      ≡ ended_by (start (behind-min (at_sum told))).args.options (terms told) (size told)
+      (ending (drop end (whole told)))
   closed =
       c.close_objective.ensures
-      ∙ ap (λ (t : List ℕ). ended_by (start (behind-min (at_sum told))).args.options (terms told) (size told) (ending t))
+      ∙ ap (λ (t : List ℕ). ended_by (start (behind-min (at_sum told))).args.options (terms told) (size told)
+      (ending t))
       (part-is (whole told) end)
 
 pub behind-requires : goal.behind-requires
@@ -145,19 +148,22 @@ behind-requires c =
 
 pub returns-in-Refused : goal.returns-in-Refused
 returns-in-Refused c =
-    let b = behind-min (goal.at.returns-in-Refused c).After-weighted_lit_sum in
+    let p = (goal.at.returns-in-Refused c).After-weighted_lit_sum in
+    let b = behind-min p in
     record {
-      answer = goal-no-sum _ (text b) _ _ (min-got b) _ (sum-refused _ _ _ (sym (ap said_sum c.in-Refused.is) ∙ sum_said (goal.at.returns-in-Refused c).After-weighted_lit_sum));
-      filled = sum-put (goal.at.returns-in-Refused c).After-weighted_lit_sum;
+      answer = goal-no-sum _ (text b) _ _ (min-got b) _
+      (sum-refused _ _ _ (sym (ap said_sum c.in-Refused.is) ∙ sum_said p));
+      filled = sum-put p;
     }
 
 pub returns-in-Sum : goal.returns-in-Sum
 returns-in-Sum c =
-    let d = told (goal.at.returns-in-Sum c).After-close_objective in
+    let p = (goal.at.returns-in-Sum c).After-close_objective in
+    let d = told p in
     record {
       answer =
           c.behind.ensures
-          ∙ ap (more (end (goal.at.returns-in-Sum c).After-close_objective)) (closed (goal.at.returns-in-Sum c).After-close_objective)
+          ∙ ap (more (end p)) (closed p)
           ∙ goal-sum _ (whole d) _ (from d) (min-got (behind-min (at_sum d))) _ _ (count d) (sum_is d);
       filled = sum-put (at_sum d);
     }

@@ -74,7 +74,8 @@ module _ (c : After-objective) where
   objective-is : said_row c.objective.result ≡ brief_row (goal (options at-objective) (rest at-objective))
   objective-is =
       c.objective.ensures.answer
-      ∙ ap (λ (t : List ℕ). brief_row (goal (options at-objective) t)) (part-is (text at-objective) (gap at-objective))
+      ∙ ap (λ (t : List ℕ). brief_row (goal (options at-objective) t))
+      (part-is (text at-objective) (gap at-objective))
 
 -- a constraint
 module _ (c : After-constraint) where
@@ -84,7 +85,8 @@ module _ (c : After-constraint) where
   constraint-is : said_row c.constraint.result ≡ brief_row (constraint (options at-constraint) (rest at-constraint))
   constraint-is =
       c.constraint.ensures.answer
-      ∙ ap (λ (t : List ℕ). brief_row (constraint (options at-constraint) t)) (part-is (text at-constraint) (gap at-constraint))
+      ∙ ap (λ (t : List ℕ). brief_row (constraint (options at-constraint) t))
+      (part-is (text at-constraint) (gap at-constraint))
 
 pub returns-then-s-k : goal.returns-then-s-k
 returns-then-s-k c =
@@ -94,56 +96,63 @@ returns-then-s-k c =
     }
 
 pub comment_after-requires : goal.comment_after-requires
-comment_after-requires c = let d = at-comment c in comment-fits (gap d) (rest d) (fits d) c.read_comment.result (comment-is c)
+comment_after-requires c = let d = at-comment c in comment-fits (gap d) (rest d) (fits d) c.read_comment.result
+    (comment-is c)
 
 pub row_after-requires : goal.row_after-requires
 row_after-requires c =
-    let d = at-objective (goal.at.row_after-requires c).After-objective in
-    subst (λ (g : Got Entry). Fitting (gap d) g) (sym (objective-is (goal.at.row_after-requires c).After-objective))
+    let p = (goal.at.row_after-requires c).After-objective in
+    let d = at-objective p in
+    subst (λ (g : Got Entry). Fitting (gap d) g) (sym (objective-is p))
     (row_fits (gap d) (rest d) (fits d) _ (goal-taken (options d) (rest d)))
 
 pub row_after-requires-in-Constraint : goal.row_after-requires-in-Constraint
 row_after-requires-in-Constraint c =
-    let d = at-constraint (goal.at.row_after-requires-in-Constraint c).After-constraint in
-    subst (λ (g : Got Entry). Fitting (gap d) g) (sym (constraint-is (goal.at.row_after-requires-in-Constraint c).After-constraint))
+    let p = (goal.at.row_after-requires-in-Constraint c).After-constraint in
+    let d = at-constraint p in
+    subst (λ (g : Got Entry). Fitting (gap d) g) (sym (constraint-is p))
     (row_fits (gap d) (rest d) (fits d) _ (constraint-taken (options d) (rest d)))
 
 pub returns-in-Comment : goal.returns-in-Comment
 returns-in-Comment c =
-    let d = at-comment (goal.at.returns-in-Comment c).After-read_comment in
+    let p = (goal.at.returns-in-Comment c).After-read_comment in
+    let d = at-comment p in
     let q = c.in-Comment.is in
     record {
       answer =
-          c.comment_after.ensures ∙ ap (comment_after (gap d)) (comment-is (goal.at.returns-in-Comment c).After-read_comment)
+          c.comment_after.ensures ∙ ap (comment_after (gap d)) (comment-is p)
           ∙ statement-comment (options d) (text d) (gap d) (gap_is d) (gap_below d) _ (begun d) q;
       filled = rw (met-is d Comment q) (none-put _ _);
     }
 
 pub returns-in-Objective : goal.returns-in-Objective
 returns-in-Objective c =
-    let d = at-objective (goal.at.returns-in-Objective c).After-objective in
+    let p = (goal.at.returns-in-Objective c).After-objective in
+    let d = at-objective p in
     let q = c.in-Objective.is in
     record {
       answer =
-          c.row_after.ensures ∙ ap (row_after (gap d)) (objective-is (goal.at.returns-in-Objective c).After-objective)
+          c.row_after.ensures ∙ ap (row_after (gap d)) (objective-is p)
           ∙ statement-goal (options d) (text d) (gap d) (gap_is d) (gap_below d) _ (begun d) q;
       filled = rw (met-is d Objective q, ← part-is (text d) (gap d)) c.objective.ensures.filled;
     }
 
 pub returns-in-Constraint : goal.returns-in-Constraint
 returns-in-Constraint c =
-    let d = at-constraint (goal.at.returns-in-Constraint c).After-constraint in
+    let p = (goal.at.returns-in-Constraint c).After-constraint in
+    let d = at-constraint p in
     let q = c.in-Constraint.is in
     record {
       answer =
-          c.row_after-in-Constraint.ensures ∙ ap (row_after (gap d)) (constraint-is (goal.at.returns-in-Constraint c).After-constraint)
+          c.row_after-in-Constraint.ensures ∙ ap (row_after (gap d)) (constraint-is p)
           ∙ statement-constraint (options d) (text d) (gap d) (gap_is d) (gap_below d) _ (begun d) q;
       filled = rw (met-is d Constraint q, ← part-is (text d) (gap d)) c.constraint.ensures.filled;
     }
 
 pub returns-in-Nothing : goal.returns-in-Nothing
 returns-in-Nothing c =
+    let p = (goal.at.returns-in-Nothing c).After-begins in
     record {
-      answer = statement-nothing (options (goal.at.returns-in-Nothing c).After-begins) (text (goal.at.returns-in-Nothing c).After-begins) (gap (goal.at.returns-in-Nothing c).After-begins) (gap_is (goal.at.returns-in-Nothing c).After-begins) (gap_below (goal.at.returns-in-Nothing c).After-begins) _ (begun (goal.at.returns-in-Nothing c).After-begins) c.in-Nothing.is;
-      filled = rw (met-is (goal.at.returns-in-Nothing c).After-begins Nothing c.in-Nothing.is) (none-put _ _);
+      answer = statement-nothing (options p) (text p) (gap p) (gap_is p) (gap_below p) _ (begun p) c.in-Nothing.is;
+      filled = rw (met-is p Nothing c.in-Nothing.is) (none-put _ _);
     }

@@ -76,29 +76,36 @@ returns-then-file-at c = step_past _ _ _ c.if-file-gt-FILE_LIMIT.false c.if-file
 
 pub overflow_add-result : goal.overflow_add-result
 overflow_add-result c =
-    let d = at-bad (goal.at.overflow_add-result c).In-Refused in
-    omega (arith, refusal-fits (options d) (text d) (place d) (short d) (within d) (refusal (goal.at.overflow_add-result c).In-Refused) (refusal_is (goal.at.overflow_add-result c).In-Refused))
+    let p = (goal.at.overflow_add-result c).In-Refused in
+    let d = at-bad p in
+    omega (arith, refusal-fits (options d) (text d) (place d) (short d) (within d) (refusal p) (refusal_is p))
 
 pub overflow_add-at : goal.overflow_add-at
 overflow_add-at c =
-    let d = here (goal.at.overflow_add-at c).In-Line in
-    omega (arith, first_fits (options d) (text d) (place d) (short d) (within d) _ _ (line-is (goal.at.overflow_add-at c).In-Line))
+    let p = (goal.at.overflow_add-at c).In-Line in
+    let d = here p in
+    omega (arith, first_fits (options d) (text d) (place d) (short d) (within d) _ _ (line-is p))
 
 pub overflow_add-result-in-Line : goal.overflow_add-result-in-Line
 overflow_add-result-in-Line c =
-    let d = here (goal.at.overflow_add-result-in-Line c).In-Line in
-    omega (arith, next_fits (options d) (text d) (place d) (short d) (within d) _ _ (line-is (goal.at.overflow_add-result-in-Line c).In-Line))
+    let p = (goal.at.overflow_add-result-in-Line c).In-Line in
+    let d = here p in
+    omega (arith, next_fits (options d) (text d) (place d) (short d) (within d) _ _ (line-is p))
 
 pub returns-in-End : goal.returns-in-End
 returns-in-End c =
-    step_end (options (goal.at.returns-in-End c).After-opb_data) (text (goal.at.returns-in-End c).After-opb_data) (place (goal.at.returns-in-End c).After-opb_data) (short (goal.at.returns-in-End c).After-opb_data) (sym (ap said_statement c.in-End.is) ∙ read (goal.at.returns-in-End c).After-opb_data)
+    let p = (goal.at.returns-in-End c).After-opb_data in
+    step_end (options p) (text p) (place p) (short p) (sym (ap said_statement c.in-End.is) ∙ read p)
 
 pub returns-in-Refused : goal.returns-in-Refused
 returns-in-Refused c =
-    let d = at-bad (goal.at.returns-in-Refused c).In-Refused in
-    step-refused (options d) (text d) (place d) (short d) (within d) (refusal (goal.at.returns-in-Refused c).In-Refused) (refusal_is (goal.at.returns-in-Refused c).In-Refused)
+    let p = (goal.at.returns-in-Refused c).In-Refused in
+    let d = at-bad p in
+    step-refused (options d) (text d) (place d) (short d) (within d) (refusal p) (refusal_is p)
 
 pub returns-in-Line : goal.returns-in-Line
 returns-in-Line c =
-    let d = here (goal.at.returns-in-Line c).In-Line in
-    rw c.first_of.ensures (step_line (options d) (text d) (place d) (short d) (within d) (found (goal.at.returns-in-Line c).In-Line) (bytes (goal.at.returns-in-Line c).In-Line) (line-is (goal.at.returns-in-Line c).In-Line))
+    let p = (goal.at.returns-in-Line c).In-Line in
+    let d = here p in
+    rw c.first_of.ensures (step_line (options d) (text d) (place d) (short d) (within d) (found p) (bytes p)
+    (line-is p))
