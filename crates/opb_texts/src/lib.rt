@@ -2,6 +2,8 @@
 // output, by C's calling convention over slices (a pointer and a length) and numbers, with an answer by value. No call
 // asks anything of what it is lent but that it is there. A refused call changes no byte of the output; 14 has the
 // length needed as its place. specs/Calls.antt says what each promises. Assumes nothing.
+#![tactic(auto)]
+
 ghost use Rattle.std.specs.Prelude.{◌≡◌};
 ghost use Rattle.definitions.specs.Answers.{said_length};
 ghost use Rattle.definitions.specs.Table.{table};
@@ -13,7 +15,7 @@ use definitions::{Length, Mode};
 // How many bytes of the output the text takes. `refusal` is 0 exactly where the call accepted, else the refusal's
 // number; then `place` is its place and the length is 0.
 #[repr(C)]
-#[derive(Drop)]
+#[derive(Clone, Copy)]
 pub struct OpbText {
     pub refusal: u8,
     pub place: u64,
