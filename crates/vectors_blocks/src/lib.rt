@@ -1,5 +1,7 @@
 // A part of the program `vectors`: a block of value lines, read on top of a length and two rows of words. Assumes
 // nothing.
+#![tactic(auto)]
+
 use definitions::Length;
 use std::io;
 use std::io::Write;
