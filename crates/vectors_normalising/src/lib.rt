@@ -1,4 +1,6 @@
 // A part of the program `vectors`: a table, normalised. Assumes nothing.
+#![tactic(auto)]
+
 use std::io;
 use std::io::Write;
 use vectors_shown::{say_counted, say_table};

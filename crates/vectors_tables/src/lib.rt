@@ -1,5 +1,7 @@
 // A part of the program `vectors`: the cases over a table, which is written, evaluated or, by vectors_normalising,
 // normalised. Its columns are arrays, of which as many entries are lent as the case has. Assumes nothing.
+#![tactic(auto)]
+
 mod evaluating;
 mod writing;
 
