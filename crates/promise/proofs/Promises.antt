@@ -35,7 +35,7 @@ use Rattle.evaluator.proofs.judge.Reads as judge
 use Rattle.assigned.specs.WordsSay.{looked}
 use Rattle.values.specs.Reads.{ReadsValues}
 use Rattle.values.proofs.read_values.Reads as read-values
-use Rattle.promise.proofs.Lent.{columns}
+use Rattle.promise.proofs.Lent.{columns, mut_columns}
 
 -- ---- What the code promises. `Post` is the contract that the prover makes of the source, over what a call is lent
 -- (a), its answer (r) and what it leaves (s); the check of a crate proves that its code meets it.
@@ -43,7 +43,7 @@ use Rattle.promise.proofs.Lent.{columns}
 -- Reading: answer and columns afterwards are those of `reading`. A refused call changes nothing; an accepted one
 -- changes only the entries it counts, from the front.
 pub reading-as-defined : (κs : _) (a : _) (r : _) (s : _) → parse-opb-data.Post κs a r s
-    → Reads a.1.0 a.0.now (columns a.1.1) r (columns s.1.1)
+    → Reads a.1.0 a.0.now (mut_columns a.1.1) r (mut_columns s.1.1)
 reading-as-defined κs a r s p = p
 
 -- Writing: answer and output afterwards are those of `writing`. A refused call changes no byte.
@@ -61,7 +61,7 @@ listing-as-defined κs a r s p = p
 
 -- Normalising: answer and columns afterwards are those of `normalising`.
 pub normalising-as-defined : (κs : _) (a : _) (r : _) (s : _) → normalise.Post κs a r s
-    → Normalises (columns a) (columns a.1.1.1.1.1.1) r (columns s.1.1.1.1.1.1)
+    → Normalises (columns a) (mut_columns a.1.1.1.1.1.1) r (mut_columns s.1.1.1.1.1.1)
 normalising-as-defined κs a r s p = p
 
 -- Evaluating one row: sum and truth, or value, and the ones are those of `evaluating`.

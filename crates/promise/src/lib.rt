@@ -2,6 +2,8 @@
 // into lent tables, and what comes back means what went out (demand 3). What comes back is foreseen (crates/foreseen)
 // before anything is written, so that a refused call changes nothing. proofs/Promises.antt restates every theorem that
 // a user relies on. Assumes nothing.
+#![tactic(auto)]
+
 ghost use Rattle.definitions.specs.Table.{table};
 ghost use Rattle.promise.specs.Returns.{Returns};
 
