@@ -2,6 +2,8 @@
 // refusal, is listed into a lent output. All of the listing program but reading its input and printing its output. The
 // lines are measured first (listing_lengths), so that a refused call changes nothing. specs/ListsFile.antt says what is
 // promised. Assumes nothing.
+#![tactic(auto)]
+
 ghost use Rattle.definitions.specs.Table.{table};
 ghost use Rattle.listing.specs.ListsFile.{ListsFile};
 
