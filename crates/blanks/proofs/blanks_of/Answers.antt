@@ -1,10 +1,8 @@
 -- `blanks::blanks_of` meets its contract. The loop's invariant: i blanks are passed; the measure is what is left of
 -- the length. Assumes nothing.
 use native.Mathlib.Omega.{arith}
-use Prim.Native.Nat.{◌-◌}
-use mathlib.Core.Logic.{inl, inr, ⊎_elim}
-use lib.ListN.{length}
-use Rattle.blanks.proofs.Blanks.{Passed, passed_none, passed-all, passed-end, passed-more}
+use mathlib.Core.Logic.{inl, inr}
+use Rattle.blanks.proofs.Blanks.{passed_none, passed-all, passed-end, passed-more}
 use Rattle.blanks.proofs.blanks_of.Goals as goal
 use Rattle.blanks.proofs.blanks_of.Goals.{then-b-ne32+else-b-ne9, else-b-ne32}
 

@@ -1,10 +1,8 @@
 -- `blanks::blanks_of` meets its contract. The loop's invariant: i blanks are passed; the measure is what is left of
 -- the length. Assumes nothing.
-use native.Mathlib.Omega.{arith}
 use Prim.Native.Nat.{◌-◌}
-use mathlib.Core.Logic.{inl, inr, ⊎_elim}
 use lib.ListN.{length}
-use Rattle.blanks.proofs.Blanks.{Passed, passed_none, passed-all, passed-end, passed-more}
+use Rattle.blanks.proofs.Blanks.{Passed}
 use Rattle.blanks.proofs.blanks_of.Given as goal
 
 abbrev pub invariant-loop-i : goal.invariant-loop-i

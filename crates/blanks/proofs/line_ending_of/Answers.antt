@@ -1,5 +1,4 @@
 -- `blanks::line_ending_of` meets its contract: each answer has its law in Endings, at place 0. Assumes nothing.
-use borrow.Author.Rules.{rules}
 use mathlib.Core.Path.{sym}
 use native.Mathlib.Omega.{arith}
 use Rattle.blanks.proofs.Endings.{nothing_left, ends-lf, ends-cr-lf, no-cr, cr-at-end, cr-alone}

@@ -1,9 +1,8 @@
 -- `blanks::until_ending_of` meets its contract. The loop's invariant: i bytes are passed and none is an LF; the
 -- measure is what is left of the length. Assumes nothing.
 use Prim.Native.Nat.{◌-◌, ◌≤◌}
-use native.Mathlib.Omega.{arith}
 use lib.ListN.{length}
-use Rattle.blanks.proofs.Endings.{Sought, sought-more, sought-all, sought-front, sought-cr, sought-lf}
+use Rattle.blanks.proofs.Endings.{Sought}
 use Rattle.blanks.proofs.until_ending_of.Given as goal
 
 abbrev pub invariant-loop-i : goal.invariant-loop-i

@@ -1,13 +1,10 @@
 -- `items::seek` meets its contract. The loop's invariant: what is sought from the start on is what is sought from `at`
 -- on; the measure is what is left of the length. Assumes nothing.
-use Prim.Native.Nat.{◌-◌, ◌<◌}
+use Prim.Native.Nat.{◌<◌}
 use mathlib.Core.Path.{sym, ◌∙◌}
-use mathlib.Core.Logic.{⊎_elim}
 use native.Mathlib.Omega.{arith}
-use borrow.Author.Rules.{rules}
-use borrow.Author.Tests.{not-true, not-false}
 use lib.ListN.{length}
-use Rattle.items.proofs.Spots.{Seeking, seeking-none, seeking-end, seeking-v, seeking-lf, seeking-white, seeking-line}
+use Rattle.items.proofs.Spots.{seeking-none, seeking-end, seeking-v, seeking-lf, seeking-white, seeking-line}
 use Rattle.items.proofs.Spots.{seeking-token}
 use Rattle.items.proofs.seek.Goals as goal
 use Rattle.items.proofs.seek.Goals.{then-opens+else-b-ne118, else-opens+then-b-eq10, else-opens+else-b-eq10+else-not-is_white}

@@ -1,13 +1,9 @@
 -- `items::solid_run` meets its contract. The loop's invariant: i bytes are passed, none of them white; the measure is
 -- what is left of the length. Assumes nothing.
-use Prim.Native.Nat.{◌-◌}
 use mathlib.Core.Path.{ap, sym, ◌∙◌}
 use mathlib.Core.Bool.{not}
 use native.Mathlib.Omega.{arith}
-use borrow.Author.Rules.{rules}
-use lib.ListN.{length}
-use Rattle.definitions.specs.Values.{is_solid}
-use Rattle.items.proofs.Runs.{Passed, passed_none, passed-all, passed-end, passed-more}
+use Rattle.items.proofs.Runs.{passed_none, passed-all, passed-end, passed-more}
 use Rattle.items.proofs.solid_run.Goals as goal
 
 pub loop-i-init : goal.loop-i-init

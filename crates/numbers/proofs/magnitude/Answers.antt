@@ -1,6 +1,5 @@
 -- `magnitude` meets its contract: below 0 it adds one, negates, and adds one again, so that each step fits
 -- (proofs/Signed.antt).
-use borrow.Author.Rules.{rules}
 use mathlib.Core.Path.{◌≡◌}
 use mathlib.Core.Bool.{true, false}
 use lib.IntN.{pos, +ℤ_one, +ℤ_idl}

@@ -1,5 +1,4 @@
 -- `read_number` meets its contract: a sign or none, and then the digits behind it.
-use borrow.Author.Rules.{rules}
 use native.Mathlib.Omega.{arith}
 use mathlib.Core.Path.{sym}
 use mathlib.Core.Logic.{inl, inr}

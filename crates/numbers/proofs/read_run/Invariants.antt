@@ -1,10 +1,8 @@
 -- `read_run` meets its contract: the loop walks over the digits, and cuts their value off at the cap (`Walked`,
 -- proofs/DigitWalk.antt).
-use native.Mathlib.Omega.{arith}
-use mathlib.Core.Logic.{⊎_elim}
-use Prim.Native.Nat.{◌-◌, ◌≤◌}
-use lib.ListN.{length, get_or}
-use Rattle.numbers.proofs.DigitWalk.{Walked, walked_none, walked_low, walked-high, walked-add, walked-over, walked_all}
+use Prim.Native.Nat.{◌-◌}
+use lib.ListN.{length}
+use Rattle.numbers.proofs.DigitWalk.{Walked}
 use Rattle.numbers.proofs.read_run.Given as goal
 
 abbrev pub invariant-loop-i : goal.invariant-loop-i

@@ -1,7 +1,6 @@
 -- `read_signed` meets its contract: a size that was cut off at the cap is judged as the value itself
 -- (proofs/DigitWalk.antt).
-use borrow.Author.Rules.{rules, sfits_of}
-use mathlib.Core.Logic.{⊎_elim}
+use borrow.Author.Rules.{sfits_of}
 use mathlib.Core.Path.{◌≡◌}
 use native.Mathlib.Omega.{arith}
 use Prim.Native.Nat.{◌≤◌}

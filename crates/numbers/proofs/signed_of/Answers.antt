@@ -1,6 +1,5 @@
 -- `signed_of` meets its contract: below 0 it takes one off, negates, and takes one off again, so that each step fits
 -- (proofs/Signed.antt).
-use borrow.Author.Rules.{rules}
 use native.Mathlib.Omega.{arith}
 use mathlib.Core.Bool.{true, false}
 use Prim.Native.Nat.{◌-◌, ◌<◌, ◌≤◌, ◌^◌}

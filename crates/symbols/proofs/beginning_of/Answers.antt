@@ -1,7 +1,6 @@
 -- `symbols::beginning_of` meets its contract, by what it calls. Assumes nothing.
 use mathlib.Core.Path.{ap, ◌∙◌}
 use Rattle.definitions.specs.Bytes.{begins}
-use borrow.Author.Rules.{rules}
 use Rattle.symbols.proofs.beginning_of.Goals as goal
 
 pub returns : goal.returns

@@ -3,7 +3,6 @@ use mathlib.Core.Path.{sym, ap}
 use Rattle.definitions.specs.Answers.{said_counted}
 use Rattle.definitions.specs.declared.Counted.{Counted}
 use Rattle.table_answers.specs.ByValue.{table_answer}
-use borrow.Author.Rules.{rules}
 use Rattle.table_answers.proofs.table_answer.Goals as goal
 
 pub returns-in-Refused : goal.returns-in-Refused

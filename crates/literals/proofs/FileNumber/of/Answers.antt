@@ -2,7 +2,6 @@
 -- nothing.
 use Rattle.definitions.specs.Literal.{file_number}
 use Rattle.literals.specs.FileDigits.{file_number_of}
-use borrow.Author.Rules.{rules}
 use Rattle.literals.proofs.FileNumber.of.Goals as goal
 
 pub returns : goal.returns

@@ -1,5 +1,4 @@
 -- `literals::FileNumber::of_digits` meets its contract: the test is the definition's. Assumes nothing.
-use borrow.Author.Rules.{rules}
 use borrow.Author.Tests.{le-leb, lt-leb}
 use Rattle.literals.specs.FileDigits.{file_number_of}
 use Rattle.literals.proofs.FileNumber.of_digits.Goals as goal

@@ -1,5 +1,4 @@
 -- `literals::Var::lit` meets its contract: an index within its limit has a code that fits. Assumes nothing.
-use borrow.Author.Rules.{rules}
 use native.Mathlib.Omega.{arith}
 use Rattle.literals.proofs.Conversions.{literal-above-limit, literal-within}
 use Rattle.literals.proofs.Var.lit.Goals as goal
