@@ -5,12 +5,12 @@ use Rattle.definitions.specs.declared.Totals.{Totals}
 use Rattle.definitions.specs.declared.Counted.{Counted}
 use Rattle.definitions.specs.declared.Counted.TheVariants as counted
 use Rattle.definitions.specs.declared.Length.{Length}
-use Rattle.definitions.specs.declared.Length.TheVariants as length
+use Rattle.definitions.specs.declared.Length.TheVariants as lengths
 
 abbrev pub said_counted : Counted → Outcome Totals
 said_counted (counted.Refused r) = refused r
 said_counted (counted.Table n) = accepted n
 
 abbrev pub said_length : Length → Outcome ℕ
-said_length (length.Refused r) = refused r
-said_length (length.Is n) = accepted n
+said_length (lengths.Refused r) = refused r
+said_length (lengths.Is n) = accepted n
