@@ -20,6 +20,8 @@
 // read by vectors_words and vectors_columns, an answer printed by vectors_shown.
 //
 // Where a write fails, the program ends with its error.
+#![tactic(auto)]
+
 ghost use Rattle.std.specs.Prelude.{◌≡◌, ◌<◌, ◌≤◌, length};
 
 use std::io;
