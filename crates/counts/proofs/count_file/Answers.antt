@@ -1,6 +1,5 @@
 -- `count_file` meets its contract: 1, or what the walk over the statements counted (proofs/Counted.antt).
 use Rattle.counts.proofs.Counted.{count_long, count-short}
-use borrow.Author.Rules.{rules}
 use Rattle.counts.proofs.count_file.Goals as goal
 
 pub returns-then-s-gt-FILE_LIMIT : goal.returns-then-s-gt-FILE_LIMIT

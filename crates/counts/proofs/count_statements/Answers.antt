@@ -1,10 +1,9 @@
 -- `count_statements` meets its contract: the loop stands at an offset with the rows and terms before it counted
 -- (`Counting`, of the crate statements). The measure is what is left of the file.
-use Prim.Native.Nat.{ℕ, ◌+◌, ◌-◌, ◌≤◌}
+use Prim.Native.Nat.{ℕ, ◌+◌, ◌≤◌}
 use mathlib.Core.List.{List}
 use mathlib.Core.Path.{◌≡◌, ap, sym, ◌∙◌}
 use native.Mathlib.Omega.{arith}
-use borrow.Author.Rules.{rules}
 use lib.ListN.{length, drop}
 use Rattle.definitions.specs.Text.{statement}
 use Rattle.definitions.specs.declared.Options.{Options}
@@ -16,7 +15,6 @@ use Rattle.statements.specs.Said.{said_statement}
 use Rattle.statements.proofs.Briefs.{LineIs, brief-stop, brief-bad, brief-item}
 use Rattle.statements.proofs.Counts.{Counting, counting-start, counting-stop, counting-bad, counting-line, place-fits}
 use Rattle.statements.proofs.Counts.{line-has-byte, line-end-within, line-terms-fewer}
-use Rattle.counts.proofs.count_statements.Statement as theorem
 use Rattle.counts.proofs.count_statements.Goals as goal
 use Rattle.counts.proofs.count_statements.Goals.{After-opb_data, In-Line, In-Refused}
 
@@ -88,8 +86,12 @@ returns-in-Refused c =
     counting-bad _ _ _ _ _ (stand (at-bad p)) _ (refusal_is p)
 
 pub overflow_add-rows : goal.overflow_add-rows
-overflow_add-rows c = omega (arith, within c, line-has-byte _ _ _ _ _ (stand (here c)) (terms c) (count c)
-    (line-is c), (stand (here c)).fewer-rows)
+overflow_add-rows c = omega (
+  arith,
+  within c,
+  line-has-byte _ _ _ _ _ (stand (here c)) (terms c) (count c) (line-is c),
+  (stand (here c)).fewer-rows,
+)
 
 pub overflow_add-terms : goal.overflow_add-terms
 overflow_add-terms c =

@@ -1,5 +1,4 @@
 -- `fitted` meets its contract: 9, then 10 (proofs/Counted.antt).
-use borrow.Author.Rules.{rules}
 use Rattle.counts.proofs.Counted.{rows-beyond, terms-beyond, both-fit}
 use Rattle.counts.proofs.fitted.Goals as goal
 

@@ -1,12 +1,10 @@
 -- `count_steps` meets its contract: the loop stands at an offset with the rows and terms before it counted
 -- (`Counting`). Each line takes the offset forward (proofs/Tallies.antt), so that
 -- what is left of the file falls.
-use Prim.Native.Nat.{ℕ, ◌+◌, ◌-◌}
+use Prim.Native.Nat.{ℕ, ◌+◌}
 use mathlib.Core.List.{List}
 use mathlib.Core.Path.{◌≡◌, ap, sym, ◌∙◌}
 use native.Mathlib.Omega.{arith}
-use borrow.Author.Rules.{rules}
-use lib.ListN.{length}
 use Rattle.definitions.specs.Stepping.{stepped, step_at}
 use Rattle.definitions.specs.declared.Entry.{Entry}
 use Rattle.definitions.specs.declared.Options.{Options}

@@ -3,7 +3,6 @@
 use Prim.Native.Nat.{ℕ, ◌≤◌}
 use mathlib.Core.List.{List}
 use mathlib.Core.Path.{◌≡◌, ap, sym, subst, ◌∙◌}
-use borrow.Author.Rules.{rules}
 use lib.ListN.{length}
 use lib.IntN.{ℤ}
 use Rattle.definitions.specs.Text.{statement}
@@ -14,7 +13,6 @@ use Rattle.definitions.proofs.Parts.{part-is}
 use Rattle.fills.specs.FillsTerms.{FillsTerms}
 use Rattle.walker.specs.Said.{said_stepped, brief_stepped}
 use Rattle.fills.proofs.FillSteps.{fill-ended, fill-stopped, fill-within, fill-line}
-use Rattle.fills.proofs.steps.fill_at.Statement as theorem
 use Rattle.fills.proofs.steps.fill_at.Goals as goal
 use Rattle.fills.proofs.steps.fill_at.Goals.{After-step_at, In-Line, Start}
 

@@ -13,7 +13,6 @@ use Rattle.statements.specs.Said.{said_statement}
 use Rattle.statements.proofs.Briefs.{LineIs, brief-item}
 use Rattle.statements.proofs.MetTerms.{statement-met}
 use Rattle.fills.proofs.FillTerms.{fill_end, fill-refused, fill-beyond, fill-whole}
-use Rattle.fills.proofs.terms.fill_terms.Statement as theorem
 use Rattle.fills.proofs.terms.fill_terms.Goals as goal
 use Rattle.fills.proofs.terms.fill_terms.Goals.{After-opb_data, After-term_room, After-terms_of-terms, In-Line, Start}
 

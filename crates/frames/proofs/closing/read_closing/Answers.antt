@@ -3,7 +3,6 @@ use Prim.Native.Nat.{ℕ, ◌+◌, ◌≤◌}
 use mathlib.Core.List.{List}
 use mathlib.Core.Path.{◌≡◌, sym, ap, ◌∙◌}
 use native.Mathlib.Omega.{arith}
-use borrow.Author.Rules.{rules}
 use lib.ListN.{length, drop, length-drop}
 use Rattle.definitions.specs.Bytes.{blanks, line_ending}
 use Rattle.definitions.proofs.Parts.{part-is}
@@ -49,8 +48,13 @@ slice_bounds-line_ending_of-start c = gap_within c
 pub overflow_add-result : goal.overflow_add-result
 overflow_add-result c =
     let e = here c in
-    omega (arith, gap_within e, line-is c, ending-within (drop (gap e + 1) (text e)), length-drop (gap e + 1)
-    (text e))
+    omega (
+      arith,
+      gap_within e,
+      line-is c,
+      ending-within (drop (gap e + 1) (text e)),
+      length-drop (gap e + 1) (text e),
+    )
 
 pub returns-then-s-eq59 : goal.returns-then-s-eq59
 returns-then-s-eq59 c =

@@ -3,7 +3,6 @@ use Prim.Native.Nat.{ℕ, ◌+◌, ◌≤◌}
 use mathlib.Core.List.{List}
 use mathlib.Core.Path.{◌≡◌, sym, ap, ◌∙◌}
 use native.Mathlib.Omega.{arith}
-use borrow.Author.Rules.{rules}
 use mir.Facts.{to_z-of_z}
 use lib.IntN.{ℤ}
 use lib.ListN.{length, drop, length-drop}
@@ -84,8 +83,12 @@ module _ (c : In-Number) where
   number-end-within : number-end ≤ length (number-text at-number)
   number-end-within =
       let b = behind-blanks at-number in
-      omega (arith, blanks-end-within b, (number-within _ number-got).1, length-drop (blanks-end b)
-      (number-text at-number))
+      omega (
+        arith,
+        blanks-end-within b,
+        (number-within _ number-got).1,
+        length-drop (blanks-end b) (number-text at-number),
+      )
 
 module _ (c : After-read_ending) where
   abbrev behind-number : In-Number

@@ -15,8 +15,12 @@ pub overflow_mul-fours : goal.overflow_mul-fours
 overflow_mul-fours c = omega (arith, and_le_r (pairs_of c.args.y) lower_pairs)
 
 pub overflow_add-fours : goal.overflow_add-fours
-overflow_add-fours c = omega (arith, and_le_r (pairs_of c.args.y) lower_pairs, and_le_r (pairs_of c.args.y / 65536)
-    lower_pairs)
+overflow_add-fours c = omega (
+  arith,
+  and_le_r (pairs_of c.args.y) lower_pairs,
+  and_le_r (pairs_of c.args.y / 65536)
+      lower_pairs,
+)
 
 pub overflow_mul-result : goal.overflow_mul-result
 overflow_mul-result c = omega (arith, and_le_r (fours_of (pairs_of c.args.y)) lower_half)

@@ -1,7 +1,6 @@
 -- `parse_opb_data` meets its contract: what the first walk counted, held against the room, is what `reading` says
 -- (proofs/Files.antt).
 use mathlib.Core.Path.{◌≡◌, sym, ap, ◌∙◌}
-use borrow.Author.Rules.{rules}
 use Rattle.definitions.specs.Answers.{said_counted}
 use Rattle.definitions.specs.Table.{Table, table, counted}
 use Rattle.definitions.specs.File.{reading}

@@ -5,7 +5,6 @@ use mathlib.Core.Path.{◌≡◌, sym, ap, ◌∙◌}
 use mathlib.Core.List.{List}
 use native.Mathlib.Omega.{arith}
 use borrow.Author.Rules.{rules, sfits_of}
-use borrow.Enum.Refused.{opened}
 use mir.Syntax.{w64}
 use mir.Val.{SFits}
 use mir.Facts.{to_z-of_z}
@@ -18,7 +17,7 @@ use Rattle.definitions.specs.declared.Entry.{Entry}
 use Rattle.statements.specs.Said.{said_statement}
 use Rattle.statements.specs.Walked.{StatementWalked}
 use Rattle.definitions.proofs.Columns.{rest_of, Lengths}
-use Rattle.reader.proofs.FillLines.{Good, good_of, Fills, fills-start, fills-lengths, fills-heavy, fills-known, fills-done}
+use Rattle.reader.proofs.FillLines.{Good, good_of, fills-start, fills-lengths, fills-heavy, fills-known, fills-done}
 use Rattle.reader.proofs.FillLines.{LineMoves, fills-moves, fills-more}
 use Rattle.reader.proofs.fill.fill_file.Goals as goal
 use Rattle.reader.proofs.fill.fill_file.Goals.{After-walk_statement, At-loop-entry, In-Line, Start}

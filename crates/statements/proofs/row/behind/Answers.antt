@@ -1,7 +1,6 @@
 -- `behind` meets its contract: each answer, n bytes on.
 use Prim.Native.Nat.{◌+◌, ◌<◌, ◌^◌}
 use native.Mathlib.Omega.{arith}
-use borrow.Author.Rules.{rules}
 use Rattle.statements.proofs.row.behind.Goals as goal
 
 pub overflow_add-result : goal.overflow_add-result

@@ -1,7 +1,6 @@
 -- `comment_after` meets its contract: each answer, k blanks on.
 use Prim.Native.Nat.{◌+◌, ◌<◌, ◌^◌}
 use mathlib.Core.Path.{subst}
-use borrow.Author.Rules.{rules}
 use Rattle.statements.specs.Fitting.{CommentFitting}
 use Rattle.beginnings.specs.declared.CommentRead.{CommentRead}
 use Rattle.statements.proofs.row.comment_after.Goals as goal

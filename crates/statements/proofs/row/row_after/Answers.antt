@@ -1,7 +1,6 @@
 -- `row_after` meets its contract: each answer, k blanks on.
 use Prim.Native.Nat.{◌+◌, ◌<◌, ◌^◌}
 use native.Mathlib.Omega.{arith}
-use borrow.Author.Rules.{rules}
 use Rattle.statements.proofs.row.row_after.Goals as goal
 
 pub overflow_add-result : goal.overflow_add-result

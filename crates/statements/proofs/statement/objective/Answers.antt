@@ -4,7 +4,6 @@ use Prim.Native.Nat.{ℕ, ◌+◌, ◌≤◌}
 use mathlib.Core.List.{List}
 use mathlib.Core.Path.{◌≡◌, sym, ap, subst, ◌∙◌}
 use native.Mathlib.Omega.{arith}
-use borrow.Author.Rules.{rules}
 use lib.ListN.{length, drop, length-drop}
 use Rattle.definitions.specs.Reader.{got, more}
 use Rattle.definitions.specs.Text.{sum, min_blanks, ending}
@@ -152,7 +151,7 @@ returns-in-Refused c =
     let b = behind-min p in
     record {
       answer = goal-no-sum _ (text b) _ _ (min-got b) _
-      (sum-refused _ _ _ (sym (ap said_sum c.in-Refused.is) ∙ sum_said p));
+          (sum-refused _ _ _ (sym (ap said_sum c.in-Refused.is) ∙ sum_said p));
       filled = sum-put p;
     }
 

@@ -1,5 +1,4 @@
 -- `opb_data` meets its contract: it is `walk_statement` over columns with no room.
-use borrow.Author.Rules.{rules}
 use Rattle.statements.proofs.statement.opb_data.Goals as goal
 
 pub returns : goal.returns

@@ -2,7 +2,6 @@
 use mathlib.Core.Path.{sym, ap}
 use Rattle.definitions.specs.Stepping.{offset_after}
 use Rattle.walker.specs.Said.{said_stepped}
-use borrow.Author.Rules.{rules}
 use Rattle.walker.proofs.steps.offset_after.Goals as goal
 
 pub returns-in-Line : goal.returns-in-Line

@@ -4,7 +4,6 @@ use Prim.Native.Nat.{ℕ, ◌≤◌}
 use mathlib.Core.List.{List}
 use mathlib.Core.Path.{◌≡◌, ap, sym, ◌∙◌}
 use native.Mathlib.Omega.{arith}
-use borrow.Author.Rules.{rules}
 use lib.ListN.{length, drop}
 use Rattle.definitions.specs.declared.Refusal.{Refusal}
 use Rattle.definitions.specs.Limits.{file_limit}
@@ -16,7 +15,6 @@ use Rattle.definitions.proofs.Parts.{part-is}
 use Rattle.statements.specs.Brief.{brief_step}
 use Rattle.statements.specs.Said.{said_statement}
 use Rattle.walker.proofs.StepAnswers.{step-long, step_past, step_end, refusal-fits, step-refused, first_fits, next_fits, step_line}
-use Rattle.walker.proofs.steps.step_at.Statement as theorem
 use Rattle.walker.proofs.steps.step_at.Goals as goal
 use Rattle.walker.proofs.steps.step_at.Goals.{After-opb_data, In-Line, In-Refused, Start}
 
