@@ -1,6 +1,8 @@
 // The listing program (01, "Examples on each side"): an OPB file on standard input, its house lines on standard output.
 // All it does itself is to read and to print; `listing::list_file` does the work, and its contract says which bytes are
 // printed. What cannot be read or printed is said on standard error.
+#![tactic(auto)]
+
 use definitions::Length;
 use outputs::Put;
 use std::io;
