@@ -2,6 +2,8 @@
 // house lines on standard output, the same as opblist's. It keeps no table: one walk of steps checks and counts
 // (`tallies::count_steps`), a second prints each statement's line as it is met. What cannot be read or printed is said
 // on standard error.
+#![tactic(auto)]
+
 use definitions::{Counted, Entry, Length, Options, Refusal, Totals};
 use outputs::Put;
 use std::io;
