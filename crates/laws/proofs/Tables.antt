@@ -19,9 +19,7 @@ use Rattle.definitions.specs.Table.{all_terms, filled, entries_of, entries, term
 use Rattle.definitions.specs.declared.Entry.{Entry}
 use Rattle.definitions.specs.Table.{weighted, remark, sort_of, row_by_row, line_in}
 use Rattle.definitions.specs.Write.{numbered}
-use Rattle.definitions.specs.House.{listed_line, listed_entry}
-use Rattle.definitions.proofs.Each.{each-so}
-use Rattle.definitions.proofs.Columns.{over-length, rows-again}
+use Rattle.definitions.proofs.Columns.{over-length}
 
 -- the entry of a line with m terms before it
 abbrev pub entry_for : ℕ → Line → Entry
@@ -112,7 +110,7 @@ module _ (all : List Line) (t : Table) (room : length (all_terms all) ≤ term_r
       let e : Entry = record { kind = kind_number r.kind; first = length pre; count = length r.terms; bound = r.bound } in
       rw (sort-of-kind r.kind, filled-in-column pre r.terms post e q refl refl, filled-terms-at pre r.terms post e q refl refl, i)
 
-  rows_back : (i : ℕ) (pre : List Term) (ls : List Line) → AllOf Indexed ls → all_terms all ≡ pre ++ all_terms ls
+  pub rows_back : (i : ℕ) (pre : List Term) (ls : List Line) → AllOf Indexed ls → all_terms all ≡ pre ++ all_terms ls
       → row_by_row (line_in (filled all t)) i (entries_for (length pre) ls) ≡ accepted ls
   unfolding row_by_row entries_for joined
   rows_back i pre [] g q = refl
@@ -121,21 +119,3 @@ module _ (all : List Line) (t : Table) (room : length (all_terms all) ≤ term_r
       let n : length pre + length (terms_of l) ≡ length (pre ++ terms_of l) = sym (length-append pre (terms_of l)) in
       let there = rows_back (i + 1) (pre ++ terms_of l) ls g.1 (q ∙ sym (append_assoc pre (terms_of l) (all_terms ls))) in
       rw (here, n, there)
-
--- "a table that was read" is again the lines that were read, row by row
-pub filled-back : (ls : List Line) (t : Table) (room : length (all_terms ls) ≤ term_room t) → AllOf Indexed ls
-    → row_by_row (line_in (filled ls t)) 0 (take (length ls) (entries (filled ls t))) ≡ accepted ls
-filled-back ls t room g = rw (filled-entries ls t) (rows_back ls t room 0 [] ls g refl)
-
--- where each has its file numbers, they are listed row by row, too
-numbered-listed : (first : ℕ) (l : Line) → Numbered first l → listed_line first l ≡ accept l
-numbered-listed first (comment f n b) h = refl
-numbered-listed first (row r) h = rw h
-
-pub filled-listed : (first : ℕ) (ls : List Line) (t : Table) (room : length (all_terms ls) ≤ term_room t) → AllOf Indexed ls
-    → AllOf (Numbered first) ls
-    → row_by_row (listed_entry first (filled ls t)) 0 (take (length ls) (entries (filled ls t))) ≡ accepted ls
-unfolding listed_entry
-filled-listed first ls t room g h =
-    rows-again (line_in (filled ls t)) (listed_line first) 0 (take (length ls) (entries (filled ls t))) ls (filled-back ls t room g)
-    (each-so (Numbered first) (λ (l : Line). listed_line first l ≡ accept l) (numbered-listed first) ls h)

@@ -21,7 +21,7 @@ use Rattle.definitions.specs.declared.Length.{Length}
 use Rattle.definitions.specs.File.{first_at, file, reading}
 use Rattle.definitions.specs.Write.{fitted_text, output_after}
 use Rattle.definitions.specs.House.{refused_line, listing, listed_entry, listing_table}
-use Rattle.laws.proofs.Tables.{filled-listed}
+use Rattle.laws.proofs.FilledTables.{filled-listed}
 use Rattle.laws.proofs.ReadRows.{statements-good, good-indexed, good-numbered}
 use Rattle.definitions.proofs.FileAnswers.{file-accepted}
 use Rattle.definitions.proofs.Columns.{fitted-accepted}

@@ -26,7 +26,8 @@ use Rattle.definitions.proofs.Meanings.{normal-holds, normal-value}
 use Rattle.normaliser.specs.Meant.{Meaning, meaning_by, goal, meaning_of, normalised}
 use Rattle.definitions.specs.declared.Counted.TheVariants as answer
 use Rattle.definitions.proofs.Columns.{Fits, rows_both, rows-again, fitted-accepted}
-use Rattle.laws.proofs.Tables.{Indexed, filled-back}
+use Rattle.laws.proofs.Tables.{Indexed}
+use Rattle.laws.proofs.FilledTables.{filled-back}
 use Rattle.definitions.proofs.Accepted.{rows-accepted}
 use Rattle.definitions.proofs.Normals.{terms-indexed, normal-weighs, normal-line-twice}
 use Rattle.normaliser.proofs.normalise.Reads as normalise

@@ -6,7 +6,8 @@ use Prim.Native.Nat.{◌+◌, ◌≤◌, ◌<◌}
 use lib.ListN.{length, length-set, length-append}
 use Rattle.definitions.specs.Number.{decimal}
 use Rattle.definitions.specs.House.{field}
-use Rattle.laws.proofs.Puts.{Puts, puts-length, byte-then, then-byte}
+use Rattle.laws.proofs.Puts.{Puts, puts-length}
+use Rattle.laws.proofs.BytePuts.{byte-then, then-byte}
 use Rattle.puts.proofs.LandLaws.{lands}
 use Rattle.house.proofs.lines.put_comment.Goals as goal
 use Rattle.house.proofs.lines.put_comment.Goals.{After-put_field-end, Start}

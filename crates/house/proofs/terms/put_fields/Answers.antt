@@ -6,7 +6,8 @@ use lib.ListN.{length, length-set}
 use mir.Facts.{to_z-of_z}
 use Rattle.definitions.specs.Number.{integer_text}
 use Rattle.definitions.specs.House.{field}
-use Rattle.laws.proofs.Puts.{Puts, puts-length, puts_then, byte-then}
+use Rattle.laws.proofs.Puts.{Puts, puts-length, puts_then}
+use Rattle.laws.proofs.BytePuts.{byte-then}
 use Rattle.house_lengths.specs.Words.{literal_words}
 use Rattle.house_lengths.proofs.Fields.{words-length}
 use Rattle.puts.proofs.LandLaws.{lands}

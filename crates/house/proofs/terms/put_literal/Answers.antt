@@ -5,7 +5,7 @@ use mathlib.Core.Bool.{Bool}
 use Prim.Native.Nat.{◌+◌, ◌≤◌}
 use lib.ListN.{length, length-set}
 use Rattle.definitions.specs.Number.{decimal}
-use Rattle.laws.proofs.Puts.{byte-then}
+use Rattle.laws.proofs.BytePuts.{byte-then}
 use Rattle.house_lengths.specs.Words.{literal_words}
 use Rattle.puts.proofs.LandLaws.{lands}
 use Rattle.house.proofs.terms.put_literal.Goals as goal
