@@ -25,7 +25,7 @@ pub const WORD_LIMIT: usize = 16_777_216;
 pub const NEEDED_LIMIT: u64 = 18_446_744_073_709_551_615;
 
 // What a row that is no comment says: "at least, at most, equal, or objective" (01, "Numbers and tables").
-#[derive(Clone, Copy)]
+#[derive(Clone, Copy, Debug, PartialEq, Eq)]
 pub enum Kind {
     AtLeast,
     AtMost,
@@ -45,14 +45,14 @@ pub const EQUAL: u8 = 3;
 pub const OBJECTIVE: u8 = 4;
 
 // How a file is to be read: "the first index (an option, any u32)" (01, "Numbers and tables").
-#[derive(Clone, Copy)]
+#[derive(Clone, Copy, Debug, PartialEq, Eq)]
 pub struct Options {
     pub first: u32,
 }
 
 // How rows are to be written: the first index, and whether in no-negated mode, where every literal is a plain variable
 // (01, "The lines written").
-#[derive(Clone, Copy)]
+#[derive(Clone, Copy, Debug, PartialEq, Eq)]
 pub struct Mode {
     pub first: u32,
     pub plain: bool,
@@ -60,7 +60,7 @@ pub struct Mode {
 
 // What is given back where a call can not be accepted: the number, and the place that belongs to it (01, "What each
 // number says").
-#[derive(Clone, Copy)]
+#[derive(Clone, Copy, Debug, PartialEq, Eq)]
 pub struct Refusal {
     pub number: u8,
     pub place: u64,
@@ -68,13 +68,13 @@ pub struct Refusal {
 
 // What a refused piece of a statement carries. Its place is the statement's (01, "What each number says"), so a piece
 // has the number alone.
-#[derive(Clone, Copy)]
+#[derive(Clone, Copy, Debug, PartialEq, Eq)]
 pub struct Fault {
     pub number: u8,
 }
 
 // How many rows and terms there are.
-#[derive(Clone, Copy)]
+#[derive(Clone, Copy, Debug, PartialEq, Eq)]
 pub struct Totals {
     pub rows: usize,
     pub terms: usize,
@@ -82,14 +82,14 @@ pub struct Totals {
 
 // What a call over a table answers: a refusal, or how many rows and terms there are. specs/Answers.antt says what each
 // case is.
-#[derive(Clone, Copy)]
+#[derive(Clone, Copy, Debug, PartialEq, Eq)]
 pub enum Counted {
     Refused(Refusal),
     Table(Totals),
 }
 
 // What a call that fills a lent output or lent columns answers: a refusal, or how much was put there.
-#[derive(Clone, Copy)]
+#[derive(Clone, Copy, Debug, PartialEq, Eq)]
 pub enum Length {
     Refused(Refusal),
     Is(usize),
@@ -97,7 +97,7 @@ pub enum Length {
 
 // One row in the columns of a table: "its first term (the count of terms before it), count of terms and bound" (01,
 // "Numbers and tables").
-#[derive(Clone, Copy)]
+#[derive(Clone, Copy, Debug, PartialEq, Eq)]
 pub struct Entry {
     pub kind: u8,
     pub first: usize,
@@ -106,7 +106,7 @@ pub struct Entry {
 }
 
 // Every byte belongs to one class (01, "The text").
-#[derive(Clone, Copy)]
+#[derive(Clone, Copy, Debug, PartialEq, Eq)]
 pub enum Class {
     Digit,
     Sign,
@@ -123,7 +123,7 @@ pub enum Class {
 }
 
 // The relational operators, as in the Rust.
-#[derive(Clone, Copy)]
+#[derive(Clone, Copy, Debug, PartialEq, Eq)]
 pub enum OpbOperator {
     LE,
     GE,
@@ -133,7 +133,7 @@ pub enum OpbOperator {
 }
 
 // What a byte begins, where a statement is to begin (01, "The text").
-#[derive(Clone, Copy)]
+#[derive(Clone, Copy, Debug, PartialEq, Eq)]
 pub enum Beginning {
     Comment,
     Objective,
@@ -142,7 +142,7 @@ pub enum Beginning {
 }
 
 // The three forms of a solver's value lines (02, A1).
-#[derive(Clone, Copy)]
+#[derive(Clone, Copy, Debug, PartialEq, Eq)]
 pub enum Form {
     SignedNumbers,
     ZerosAndOnes,
