@@ -8,7 +8,7 @@ ghost use Rattle.laws.proofs.Puts.{Puts};
 ghost use Rattle.house_lengths.specs.Words.{literal_words, term_words};
 ghost use Rattle.house.specs.Ready.{TermReady, TermsReady};
 
-use literals::{FileNumber, FileNumberRead, Lit};
+use literals::{FileNumber, Lit};
 use puts::{put_count, put_number};
 
 fn put_literal(tilde: bool, n: FileNumber, out: &mut [u8], at: usize) -> usize
@@ -40,8 +40,8 @@ fn put_term(w: i64, l: Lit, first: u32, out: &mut [u8], at: usize) -> usize
     ensures { Puts (term_fields first (term w l.0)) at out.old result out.new }
 {
     match FileNumber::of(l.var(), first) {
-        FileNumberRead::Is(n) => put_fields(w, l.is_neg(), n, out, at),
-        FileNumberRead::OutOfRange => at,
+        Some(n) => put_fields(w, l.is_neg(), n, out, at),
+        None => at,
     }
 }
 

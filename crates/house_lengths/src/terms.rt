@@ -4,7 +4,7 @@ ghost use Rattle.definitions.specs.Row.{term};
 ghost use Rattle.house_lengths.specs.Words.{term_words};
 ghost use Rattle.house_lengths.specs.Lengths.{said_term_length, term_length};
 
-use literals::{FileNumber, FileNumberRead, Lit};
+use literals::{FileNumber, Lit};
 
 #[derive(Clone, Copy)]
 pub enum TermLength {
@@ -26,7 +26,7 @@ pub fn term_length(w: i64, l: Lit, first: u32) -> TermLength
     ensures { said_term_length result ≡ term_length first (term w l.0) }
 {
     match FileNumber::of(l.var(), first) {
-        FileNumberRead::Is(n) => TermLength::Is(fields_length(w, l.is_neg(), n)),
-        FileNumberRead::OutOfRange => TermLength::OutOfRange,
+        Some(n) => TermLength::Is(fields_length(w, l.is_neg(), n)),
+        None => TermLength::OutOfRange,
     }
 }

@@ -5,7 +5,7 @@ ghost use Rattle.shown.specs.Terms.{literal_words, own_terms};
 ghost use Rattle.lines.specs.LinePieces.{space_if, term_pieces, shown_pieces};
 ghost use Rattle.lines.specs.Ended.{PutsTerms};
 
-use literals::{FileNumber, FileNumberRead};
+use literals::FileNumber;
 use outputs::Put;
 use puts::{put_number, put_text};
 use shown::{Shown, Style, Sums, show_term, with_weight};
@@ -62,8 +62,8 @@ fn put_shown(style: Style, x: Shown, out: &mut [u8], at: usize) -> usize
 {
     let v = x.var;
     match FileNumber::of(v, style.first) {
-        FileNumberRead::Is(n) => put_term(style.apart, x, n, out, at),
-        FileNumberRead::OutOfRange => at,
+        Some(n) => put_term(style.apart, x, n, out, at),
+        None => at,
     }
 }
 

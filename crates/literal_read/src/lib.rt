@@ -7,7 +7,7 @@ ghost use Rattle.definitions.specs.Text.{digits, variable, literal};
 ghost use Rattle.literal_read.specs.Said.{said_literal};
 
 use definitions::{Fault, Options};
-use literals::{FileNumber, FileNumberRead, Lit, LitRead, Var, VarRead};
+use literals::{FileNumber, Lit, Var};
 
 // "no literal there"
 const NO_LITERAL: u8 = 4;
@@ -31,17 +31,17 @@ fn read_digits(s: &[u8], options: Options, negated: bool) -> LiteralRead
     if count == 0 {
         return LiteralRead::Refused(Fault { number: NO_LITERAL });
     }
-    let FileNumberRead::Is(n) = FileNumber::of_digits(run.size) else {
+    let Some(n) = FileNumber::of_digits(run.size) else {
         return LiteralRead::Refused(Fault {
             number: OUT_OF_RANGE,
         });
     };
-    let VarRead::Is(v) = Var::of_file(n, options.first) else {
+    let Some(v) = Var::of_file(n, options.first) else {
         return LiteralRead::Refused(Fault {
             number: OUT_OF_RANGE,
         });
     };
-    let LitRead::Is(l) = v.lit(negated) else {
+    let Some(l) = v.lit(negated) else {
         return LiteralRead::Refused(Fault {
             number: OUT_OF_RANGE,
         });

@@ -1,15 +1,11 @@
 -- Each public function has one possible answer for each input: two that its contract allows are equal.
 use Prim.Native.Nat.{ℕ}
 use mathlib.Core.Path.{◌≡◌, refl, sym, ap, ◌∙◌}
+use Rattle.std.specs.Prelude.{Option, Some, None}
 use Rattle.literals.specs.Said.{said_file_number, said_var, said_lit}
+use Rattle.literals.specs.declared.FileNumber.{FileNumber}
 use Rattle.literals.specs.declared.Lit.{Lit}
 use Rattle.literals.specs.declared.Var.{Var}
-use Rattle.literals.specs.declared.FileNumberRead.{FileNumberRead}
-use Rattle.literals.specs.declared.FileNumberRead.TheVariants as file-number
-use Rattle.literals.specs.declared.VarRead.{VarRead}
-use Rattle.literals.specs.declared.VarRead.TheVariants as var
-use Rattle.literals.specs.declared.LitRead.{LitRead}
-use Rattle.literals.specs.declared.LitRead.TheVariants as lit
 use Rattle.literals.proofs.Conversions.{accepted, no-refusal}
 use Rattle.literals.proofs.FileNumber.of_digits.Reads as file-number-of-digits
 use Rattle.literals.proofs.FileNumber.of.Reads as file-number-of
@@ -29,23 +25,23 @@ use Rattle.literals.proofs.Lit.is_neg.Reads as lit-is-neg
 use Rattle.literals.proofs.Lit.is_pos.Reads as lit-is-pos
 
 -- ---- an answer is known by what it says
-pub said-file-number : (r r' : FileNumberRead) → said_file_number r ≡ said_file_number r' → r ≡ r'
-said-file-number (file-number.Is x) (file-number.Is y) e = ap (λ (n : ℕ). file-number.Is (record { 0 = n })) (accepted x.0 y.0 e)
-said-file-number (file-number.Is x) file-number.OutOfRange e = absurd (no-refusal x.0 _ e)
-said-file-number file-number.OutOfRange (file-number.Is y) e = absurd (no-refusal y.0 _ (sym e))
-said-file-number file-number.OutOfRange file-number.OutOfRange e = refl
+pub said-file-number : (r r' : Option FileNumber) → said_file_number r ≡ said_file_number r' → r ≡ r'
+said-file-number (Some x) (Some y) e = ap (λ (n : ℕ). Some (record { 0 = n })) (accepted x.0 y.0 e)
+said-file-number (Some x) None e = absurd (no-refusal x.0 _ e)
+said-file-number None (Some y) e = absurd (no-refusal y.0 _ (sym e))
+said-file-number None None e = refl
 
-pub said-var : (r r' : VarRead) → said_var r ≡ said_var r' → r ≡ r'
-said-var (var.Is x) (var.Is y) e = ap (λ (n : ℕ). var.Is (record { 0 = n })) (accepted x.0 y.0 e)
-said-var (var.Is x) var.OutOfRange e = absurd (no-refusal x.0 _ e)
-said-var var.OutOfRange (var.Is y) e = absurd (no-refusal y.0 _ (sym e))
-said-var var.OutOfRange var.OutOfRange e = refl
+pub said-var : (r r' : Option Var) → said_var r ≡ said_var r' → r ≡ r'
+said-var (Some x) (Some y) e = ap (λ (n : ℕ). Some (record { 0 = n })) (accepted x.0 y.0 e)
+said-var (Some x) None e = absurd (no-refusal x.0 _ e)
+said-var None (Some y) e = absurd (no-refusal y.0 _ (sym e))
+said-var None None e = refl
 
-pub said-lit : (r r' : LitRead) → said_lit r ≡ said_lit r' → r ≡ r'
-said-lit (lit.Is x) (lit.Is y) e = ap (λ (n : ℕ). lit.Is (record { 0 = n })) (accepted x.0 y.0 e)
-said-lit (lit.Is x) lit.OutOfRange e = absurd (no-refusal x.0 _ e)
-said-lit lit.OutOfRange (lit.Is y) e = absurd (no-refusal y.0 _ (sym e))
-said-lit lit.OutOfRange lit.OutOfRange e = refl
+pub said-lit : (r r' : Option Lit) → said_lit r ≡ said_lit r' → r ≡ r'
+said-lit (Some x) (Some y) e = ap (λ (n : ℕ). Some (record { 0 = n })) (accepted x.0 y.0 e)
+said-lit (Some x) None e = absurd (no-refusal x.0 _ e)
+said-lit None (Some y) e = absurd (no-refusal y.0 _ (sym e))
+said-lit None None e = refl
 
 same-var : (r r' : Var) → r.0 ≡ r'.0 → r ≡ r'
 same-var r r' e = ap (λ (n : ℕ). record { 0 = n }) e

@@ -1,6 +1,6 @@
 // File numbers, variables and literals, as in the Rust's types.rs. "File number, index and code may not be passed one
-// for another" (01): each is a type of its own, and the functions here are the only ways between them. Where one has no
-// counterpart the answer is refusal 5. Assumes nothing.
+// for another" (01): each is a type of its own, and the functions here are the only ways between them. `None` is
+// where one has no counterpart, refusal 5. Assumes nothing.
 #![tactic(auto)]
 
 ghost use Rattle.std.specs.Prelude.{◌≡◌, true, false, not};
@@ -11,44 +11,26 @@ ghost use Rattle.literals.specs.FileDigits.{file_number_of};
 use definitions::{FILE_NUMBER_LIMIT, INDEX_LIMIT};
 
 // The number behind an `x` in a file.
-#[derive(Clone, Copy)]
+#[derive(Clone, Copy, Debug, PartialEq, Eq)]
 pub struct FileNumber(u32);
 
 // A variable: its index.
-#[derive(Clone, Copy)]
+#[derive(Clone, Copy, Debug, PartialEq, Eq)]
 pub struct Var(u32);
 
 // A literal: its code, twice the index, plus 1 if negated.
-#[derive(Clone, Copy)]
+#[derive(Clone, Copy, Debug, PartialEq, Eq)]
 pub struct Lit(u32);
-
-#[derive(Clone, Copy)]
-pub enum FileNumberRead {
-    Is(FileNumber),
-    OutOfRange,
-}
-
-#[derive(Clone, Copy)]
-pub enum VarRead {
-    Is(Var),
-    OutOfRange,
-}
-
-#[derive(Clone, Copy)]
-pub enum LitRead {
-    Is(Lit),
-    OutOfRange,
-}
 
 impl FileNumber {
     // The file number that digits stand for.
-    pub fn of_digits(size: u64) -> FileNumberRead
+    pub fn of_digits(size: u64) -> Option<FileNumber>
         ensures { said_file_number result ≡ file_number_of size }
     {
         if size <= FILE_NUMBER_LIMIT {
-            FileNumberRead::Is(FileNumber(size as u32))
+            Some(FileNumber(size as u32))
         } else {
-            FileNumberRead::OutOfRange
+            None
         }
     }
 
@@ -60,7 +42,7 @@ impl FileNumber {
     }
 
     // The number that a variable is written with.
-    pub fn of(v: Var, first: u32) -> FileNumberRead
+    pub fn of(v: Var, first: u32) -> Option<FileNumber>
         ensures { said_file_number result ≡ file_number first v.0 }
     {
         FileNumber::of_digits(v.0 as u64 + first as u64)
@@ -90,42 +72,35 @@ impl Var {
     }
 
     // "A variable index is the file number less the first index."
-    pub fn of_file(n: FileNumber, first: u32) -> VarRead
+    pub fn of_file(n: FileNumber, first: u32) -> Option<Var>
         ensures { said_var result ≡ index first n.0 }
     {
-        if n.0 < first {
-            return VarRead::OutOfRange;
-        }
-        let v = n.0 - first;
-        if v <= INDEX_LIMIT {
-            VarRead::Is(Var(v))
-        } else {
-            VarRead::OutOfRange
-        }
+        let v = n.0.checked_sub(first)?;
+        if v <= INDEX_LIMIT { Some(Var(v)) } else { None }
     }
 
     // A literal of the variable, if its index is within the limit.
-    pub fn lit(self, negated: bool) -> LitRead
+    pub fn lit(self, negated: bool) -> Option<Lit>
         ensures { said_lit result ≡ code_for negated self.0 }
     {
         if INDEX_LIMIT < self.0 {
-            return LitRead::OutOfRange;
+            return None;
         }
         let plain = 2 * self.0;
         if negated {
-            LitRead::Is(Lit(plain + 1))
+            Some(Lit(plain + 1))
         } else {
-            LitRead::Is(Lit(plain))
+            Some(Lit(plain))
         }
     }
 
-    pub fn pos_lit(self) -> LitRead
+    pub fn pos_lit(self) -> Option<Lit>
         ensures { said_lit result ≡ code_for false self.0 }
     {
         self.lit(false)
     }
 
-    pub fn neg_lit(self) -> LitRead
+    pub fn neg_lit(self) -> Option<Lit>
         ensures { said_lit result ≡ code_for true self.0 }
     {
         self.lit(true)

@@ -4,7 +4,7 @@ ghost use Rattle.shown.specs.Terms.{own_terms, term_words};
 ghost use Rattle.measures.specs.Tallies.{no_tally, lawful_shown, tally_shown, tallied, said_tally};
 
 use lengths::add_needed;
-use literals::{FileNumber, FileNumberRead};
+use literals::FileNumber;
 use shown::{Shown, Style, Sums, show_term, with_weight};
 
 // What the first walk counts of a row's terms: whether each so far has a file number, and if so the length of their
@@ -49,12 +49,12 @@ fn tally_shown(t: Tally, style: Style, x: Shown) -> Tally
     let sums = with_weight(old, x.own, x.falls);
     let v = x.var;
     match FileNumber::of(v, style.first) {
-        FileNumberRead::Is(n) => Tally {
+        Some(n) => Tally {
             sums,
             numbered: t.numbered,
             length: add_needed(t.length, term_length(x, n) as u64),
         },
-        FileNumberRead::OutOfRange => Tally {
+        None => Tally {
             sums,
             numbered: false,
             length: t.length,

@@ -8,7 +8,7 @@ ghost use Rattle.plain.specs.Plain.{PlainFits, plain_term};
 ghost use Rattle.sums.specs.Run.{RunSays};
 
 use definitions::Options;
-use literals::{FileNumber, FileNumberRead, LitRead, Var, VarRead};
+use literals::{FileNumber, Lit, Var};
 use plain::{PlainRead, PlainTerm};
 use term_checks::SIZE_CAP;
 
@@ -22,16 +22,12 @@ pub struct PlainRun {
 }
 
 // The literal of a plain term, by its file number and its variable. Neither is out of range.
-fn plain_lit(term: PlainTerm, first: u32) -> LitRead
+fn plain_lit(term: PlainTerm, first: u32) -> Option<Lit>
     requires { PlainFits first term }
     ensures { said_lit result ≡ accept (plain_term first term).code }
 {
-    let FileNumberRead::Is(n) = FileNumber::of_digits(term.number) else {
-        return LitRead::OutOfRange;
-    };
-    let VarRead::Is(v) = Var::of_file(n, first) else {
-        return LitRead::OutOfRange;
-    };
+    let n = FileNumber::of_digits(term.number)?;
+    let v = Var::of_file(n, first)?;
     v.lit(term.negated)
 }
 
@@ -41,7 +37,7 @@ fn put_plain(weights: &mut [i64], literals: &mut [u32], at: usize, term: PlainTe
     ensures { TermPut at (plain_term first term).weight (plain_term first term).code weights.old literals.old weights.new literals.new }
 {
     if at < columns::term_room(weights, literals) {
-        let LitRead::Is(literal) = plain_lit(term, first) else {
+        let Some(literal) = plain_lit(term, first) else {
             return;
         };
         let size = term.size as i64;

@@ -4,7 +4,7 @@ ghost use Rattle.definitions.specs.Table.{and_then};
 ghost use Rattle.definitions.specs.Values.{whole_number, literal_for, signed_for, signed_token, named_variable, x_token};
 ghost use Rattle.tokens.specs.Said.{said_whole, capped, said_token, token_says};
 
-use literals::{FileNumber, FileNumberRead, Lit, LitRead, Var, VarRead};
+use literals::{FileNumber, Lit, Var};
 use numbers::read_run;
 
 // "first index 1"
@@ -46,13 +46,13 @@ fn whole_number(s: &[u8]) -> Whole
 fn literal_for(negative: bool, size: u64) -> Token
     ensures { said_token result ≡ literal_for negative size }
 {
-    let FileNumberRead::Is(number) = FileNumber::of_digits(size) else {
+    let Some(number) = FileNumber::of_digits(size) else {
         return Token::Beyond;
     };
-    let VarRead::Is(variable) = Var::of_file(number, FIRST) else {
+    let Some(variable) = Var::of_file(number, FIRST) else {
         return Token::Beyond;
     };
-    let LitRead::Is(literal) = variable.lit(negative) else {
+    let Some(literal) = variable.lit(negative) else {
         return Token::Beyond;
     };
     Token::Literal(literal)

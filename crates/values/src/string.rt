@@ -10,7 +10,7 @@ ghost use Rattle.values.specs.Strings.{behind_of, checked_at, said_checked, Fitt
 
 use bits::{is_otherwise, make_true};
 use items::{NextItem, next_item};
-use literals::{Lit, LitRead, Var};
+use literals::{Lit, Var};
 
 // 20, 5 or 22; no string; or where it stands.
 #[derive(Drop)]
@@ -38,10 +38,9 @@ fn literal_at(variable: u64, digit: u8) -> Lit
     requires { variable ≤ index_limit }
     ensures { result.0 ≡ code_of (eqb digit 48) variable }
 {
-    match Var::of_index(variable as u32).lit(digit == b'0') {
-        LitRead::Is(literal) => literal,
-        LitRead::OutOfRange => Lit::of_code(0),
-    }
+    Var::of_index(variable as u32)
+        .lit(digit == b'0')
+        .unwrap_or(Lit::of_code(0))
 }
 
 pub(crate) fn string_conflicts(text: &[u8], kept: u64, values: &[u64], known: &[u64]) -> bool

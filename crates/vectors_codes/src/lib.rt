@@ -2,7 +2,7 @@
 #![tactic(auto)]
 
 use definitions::{Beginning, Class};
-use literals::{FileNumber, FileNumberRead, Lit, LitRead, Var, VarRead};
+use literals::{FileNumber, Lit, Var};
 use std::io;
 use std::io::Write;
 use vectors_shown::{say, say_code, say_whether};
@@ -42,24 +42,24 @@ fn show_byte<W: Write>(output: &mut W, b: u8) -> io::Result<()> {
     say(output, &marks)
 }
 
-fn show_number<W: Write>(output: &mut W, r: FileNumberRead) -> io::Result<()> {
+fn show_number<W: Write>(output: &mut W, r: Option<FileNumber>) -> io::Result<()> {
     match r {
-        FileNumberRead::Is(n) => say_code(output, n.number()),
-        FileNumberRead::OutOfRange => say(output, b" refused"),
+        Some(n) => say_code(output, n.number()),
+        None => say(output, b" refused"),
     }
 }
 
-fn show_variable<W: Write>(output: &mut W, r: VarRead) -> io::Result<()> {
+fn show_variable<W: Write>(output: &mut W, r: Option<Var>) -> io::Result<()> {
     match r {
-        VarRead::Is(v) => say_code(output, v.index()),
-        VarRead::OutOfRange => say(output, b" refused"),
+        Some(v) => say_code(output, v.index()),
+        None => say(output, b" refused"),
     }
 }
 
-fn show_code<W: Write>(output: &mut W, r: LitRead) -> io::Result<()> {
+fn show_code<W: Write>(output: &mut W, r: Option<Lit>) -> io::Result<()> {
     match r {
-        LitRead::Is(l) => say_code(output, l.code()),
-        LitRead::OutOfRange => say(output, b" refused"),
+        Some(l) => say_code(output, l.code()),
+        None => say(output, b" refused"),
     }
 }
 
@@ -67,7 +67,7 @@ fn show_code<W: Write>(output: &mut W, r: LitRead) -> io::Result<()> {
 fn show_file<W: Write>(output: &mut W, size: u64, first: u32) -> io::Result<()> {
     let r = FileNumber::of_digits(size);
     show_number(output, r)?;
-    let FileNumberRead::Is(number) = r else {
+    let Some(number) = r else {
         return Ok(());
     };
     show_variable(output, Var::of_file(number, first))

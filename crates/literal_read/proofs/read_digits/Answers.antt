@@ -22,7 +22,7 @@ module _ (c : After-of_file) where
   var-read : said_var c.of_file.result ≡ indexed found
   var-read =
       c.of_file.ensures
-      ∙ index-of-digits _ _ _ (sym (ap said_file_number c.in-Is.is)
+      ∙ index-of-digits _ _ _ (sym (ap said_file_number c.in-Some.is)
       ∙ c.of_digits.ensures)
 
 pub returns-then-count-eq0 : goal.returns-then-count-eq0
@@ -42,13 +42,13 @@ returns-in_default-of_file c =
 pub returns-in_default-lit : goal.returns-in_default-lit
 returns-in_default-lit c =
     let d = found (goal.at.returns-in_default-lit c).After-of_file in
-    digits-coded _ _ _ _ d.read_run-run.ensures d.if-count-eq0.false c.in-Is-of_file.v.0
-    (sym (ap said_var c.in-Is-of_file.is) ∙ var-read (goal.at.returns-in_default-lit c).After-of_file) (refuse 5)
+    digits-coded _ _ _ _ d.read_run-run.ensures d.if-count-eq0.false c.in-Some-of_file.v.0
+    (sym (ap said_var c.in-Some-of_file.is) ∙ var-read (goal.at.returns-in_default-lit c).After-of_file) (refuse 5)
     (sym (ap said_lit c.in_default-lit.is) ∙ c.lit.ensures)
 
 pub returns : goal.returns
 returns c =
     let d = found (goal.at.returns c).After-of_file in
-    digits-coded _ _ _ _ d.read_run-run.ensures d.if-count-eq0.false c.in-Is-of_file.v.0
-    (sym (ap said_var c.in-Is-of_file.is) ∙ var-read (goal.at.returns c).After-of_file) (accept _)
-    (sym (ap said_lit c.in-Is-lit.is) ∙ c.lit.ensures)
+    digits-coded _ _ _ _ d.read_run-run.ensures d.if-count-eq0.false c.in-Some-of_file.v.0
+    (sym (ap said_var c.in-Some-of_file.is) ∙ var-read (goal.at.returns c).After-of_file) (accept _)
+    (sym (ap said_lit c.in-Some-lit.is) ∙ c.lit.ensures)

@@ -14,7 +14,7 @@ use Rattle.house_lengths.specs.Words.{term_words}
 use Rattle.literals.proofs.Numbered.{number_is, no_number}
 use Rattle.house_lengths.proofs.Fields.{term_words_lem}
 use Rattle.house.proofs.terms.put_term.Goals as goal
-use Rattle.house.proofs.terms.put_term.Goals.{After-of, In-Is, Start}
+use Rattle.house.proofs.terms.put_term.Goals.{After-of, In-Some, Start}
 
 module _ (c : After-of) where
   abbrev start : Start
@@ -23,24 +23,24 @@ module _ (c : After-of) where
   said : said_file_number c.of.result ≡ file_number start.args.first (index_of start.args.l.0)
   said = c.of.ensures ∙ ap (file_number start.args.first) c.var.ensures
 
-module _ (c : In-Is) where
+module _ (c : In-Some) where
   abbrev s : Start
-  s = start (goal.at.In-Is c).After-of
+  s = start (goal.at.In-Some c).After-of
 
-  words : term_words s.args.w (negated s.args.l.0) c.in-Is.n.0 ≡ term_fields s.args.first
+  words : term_words s.args.w (negated s.args.l.0) c.in-Some.n.0 ≡ term_fields s.args.first
       (term s.args.w s.args.l.0)
-  words = term_words_lem s.args.first s.args.w s.args.l.0 _ (number_is _ _ _ (said (goal.at.In-Is c).After-of) _ c.in-Is.is).0
+  words = term_words_lem s.args.first s.args.w s.args.l.0 _ (number_is _ _ _ (said (goal.at.In-Some c).After-of) _ c.in-Some.is).0
 
 pub put_fields-requires : goal.put_fields-requires
 put_fields-requires c =
-    let h : (s (goal.at.put_fields-requires c).In-Is).args.at + length (term_words (s (goal.at.put_fields-requires c).In-Is).args.w (negated (s (goal.at.put_fields-requires c).In-Is).args.l.0) c.in-Is.n.0) ≤ length
-    (s (goal.at.put_fields-requires c).In-Is).args.out.now = omega (arith, (s (goal.at.put_fields-requires c).In-Is).requires.room, ap length (words (goal.at.put_fields-requires c).In-Is)) in
-    rw (to_z-of_z (s (goal.at.put_fields-requires c).In-Is).ranges.w, c.is_neg.ensures) h
+    let h : (s (goal.at.put_fields-requires c).In-Some).args.at + length (term_words (s (goal.at.put_fields-requires c).In-Some).args.w (negated (s (goal.at.put_fields-requires c).In-Some).args.l.0) c.in-Some.n.0) ≤ length
+    (s (goal.at.put_fields-requires c).In-Some).args.out.now = omega (arith, (s (goal.at.put_fields-requires c).In-Some).requires.room, ap length (words (goal.at.put_fields-requires c).In-Some)) in
+    rw (to_z-of_z (s (goal.at.put_fields-requires c).In-Some).ranges.w, c.is_neg.ensures) h
 
-pub returns-in-Is : goal.returns-in-Is
-returns-in-Is c =
-    puts-as (rw (to_z-of_z (s (goal.at.returns-in-Is c).In-Is).ranges.w, c.is_neg.ensures) at c.put_fields.ensures) (words (goal.at.returns-in-Is c).In-Is)
+pub returns-in-Some : goal.returns-in-Some
+returns-in-Some c =
+    puts-as (rw (to_z-of_z (s (goal.at.returns-in-Some c).In-Some).ranges.w, c.is_neg.ensures) at c.put_fields.ensures) (words (goal.at.returns-in-Some c).In-Some)
 
-pub returns-in-OutOfRange : goal.returns-in-OutOfRange
-returns-in-OutOfRange c =
-    absurd (one_truth _ (start (goal.at.returns-in-OutOfRange c).After-of).requires.number (no_number _ _ _ (said (goal.at.returns-in-OutOfRange c).After-of) c.in-OutOfRange.is))
+pub returns-in-None : goal.returns-in-None
+returns-in-None c =
+    absurd (one_truth _ (start (goal.at.returns-in-None c).After-of).requires.number (no_number _ _ _ (said (goal.at.returns-in-None c).After-of) c.in-None.is))

@@ -15,14 +15,14 @@ module _ (c : After-of) where
   said : said_file_number c.of.result ≡ file_number start.args.first (index_of start.args.l.0)
   said = c.of.ensures ∙ ap (file_number start.args.first) c.var.ensures
 
-pub returns-in-Is : goal.returns-in-Is
-returns-in-Is c =
-    let s = start (goal.at.returns-in-Is c).After-of in
-    let g = number_is _ _ _ (said (goal.at.returns-in-Is c).After-of) _ c.in-Is.is in
+pub returns-in-Some : goal.returns-in-Some
+returns-in-Some c =
+    let s = start (goal.at.returns-in-Some c).After-of in
+    let g = number_is _ _ _ (said (goal.at.returns-in-Some c).After-of) _ c.in-Some.is in
     length-numbered s.args.first s.args.w s.args.l.0 _ _ g.0 g.1
     (rw (to_z-of_z s.ranges.w, c.is_neg.ensures) at c.fields_length.ensures)
 
-pub returns-in-OutOfRange : goal.returns-in-OutOfRange
-returns-in-OutOfRange c =
-    let s = start (goal.at.returns-in-OutOfRange c).After-of in
-    length-unnumbered s.args.first s.args.w s.args.l.0 (no_number _ _ _ (said (goal.at.returns-in-OutOfRange c).After-of) c.in-OutOfRange.is)
+pub returns-in-None : goal.returns-in-None
+returns-in-None c =
+    let s = start (goal.at.returns-in-None c).After-of in
+    length-unnumbered s.args.first s.args.w s.args.l.0 (no_number _ _ _ (said (goal.at.returns-in-None c).After-of) c.in-None.is)

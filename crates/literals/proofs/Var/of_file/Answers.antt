@@ -3,11 +3,13 @@ use native.Mathlib.Omega.{arith}
 use Rattle.literals.proofs.Conversions.{index-below-first, index-above-limit, index-within}
 use Rattle.literals.proofs.Var.of_file.Goals as goal
 
-pub returns-then-n-first : goal.returns-then-n-first
-returns-then-n-first c = index-below-first _ _ c.if-n-first.true
+pub returns-in_err-v : goal.returns-in_err-v
+returns-in_err-v c = rw c.from_residual.ensures (index-below-first _ _ (omega (arith, c.in_err-v.ensures)))
 
 pub returns-then-v-le-INDEX_LIMIT : goal.returns-then-v-le-INDEX_LIMIT
-returns-then-v-le-INDEX_LIMIT c = index-within _ _ (omega arith) (omega arith) c.if-v-le-INDEX_LIMIT.true
+returns-then-v-le-INDEX_LIMIT c =
+    let e = c.in_ok-v.ensures in
+    rw e.1 (index-within _ _ (omega arith) e.0 (omega (arith, e.1)))
 
 pub returns-else-v-le-INDEX_LIMIT : goal.returns-else-v-le-INDEX_LIMIT
-returns-else-v-le-INDEX_LIMIT c = index-above-limit _ _ c.if-v-le-INDEX_LIMIT.false
+returns-else-v-le-INDEX_LIMIT c = index-above-limit _ _ (omega (arith, c.in_ok-v.ensures.1))

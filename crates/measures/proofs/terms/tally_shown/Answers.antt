@@ -20,14 +20,14 @@ module _ (c : After-of) where
       let f : SFits w64 start.args.x.own = record { sfits = c.struct_told-1.given.0.1 } in
       c.with_weight-sums.ensures ∙ rw (to_z-of_z f)
 
-pub returns-in-Is : goal.returns-in-Is
-returns-in-Is c =
-    let s = start (goal.at.returns-in-Is c).After-of in
-    let g = number_is _ _ _ c.of.ensures _ c.in-Is.is in
-    tally-numbered s.args.style s.args.t s.args.x (weighed (goal.at.returns-in-Is c).After-of)
+pub returns-in-Some : goal.returns-in-Some
+returns-in-Some c =
+    let s = start (goal.at.returns-in-Some c).After-of in
+    let g = number_is _ _ _ c.of.ensures _ c.in-Some.is in
+    tally-numbered s.args.style s.args.t s.args.x (weighed (goal.at.returns-in-Some c).After-of)
     _ _ g.0 g.1 (c.add_needed.ensures ∙ ap (λ (m : ℕ). needed (s.args.t.length + m)) c.term_length.ensures)
 
-pub returns-in-OutOfRange : goal.returns-in-OutOfRange
-returns-in-OutOfRange c =
-    let s = start (goal.at.returns-in-OutOfRange c).After-of in
-    tally-unnumbered s.args.style s.args.t s.args.x (weighed (goal.at.returns-in-OutOfRange c).After-of) (no_number _ _ _ c.of.ensures c.in-OutOfRange.is)
+pub returns-in-None : goal.returns-in-None
+returns-in-None c =
+    let s = start (goal.at.returns-in-None c).After-of in
+    tally-unnumbered s.args.style s.args.t s.args.x (weighed (goal.at.returns-in-None c).After-of) (no_number _ _ _ c.of.ensures c.in-None.is)

@@ -9,35 +9,35 @@ use Rattle.plain.specs.Plain.{plain_term}
 use Rattle.sums.proofs.Walking.{put-there, put-nowhere}
 use Rattle.sums.proofs.Runs.{minus-fits, weight-negative, weight-plain}
 use Rattle.sums.proofs.run.put_plain.Goals as goal
-use Rattle.sums.proofs.run.put_plain.Goals.{After-plain_lit, In-Is, Joined-term, Start, then-term, else-term}
+use Rattle.sums.proofs.run.put_plain.Goals.{After-plain_lit, In-Some, Joined-term, Start, then-term, else-term}
 
 -- the literal is there
-module _ (c : In-Is) where
+module _ (c : In-Some) where
   abbrev lit : After-plain_lit
-  lit = (goal.at.In-Is c).After-plain_lit
+  lit = (goal.at.In-Some c).After-plain_lit
 
   abbrev start : Start
-  start = (goal.at.In-Is c).Start
+  start = (goal.at.In-Some c).Start
 
-  code_is : {x : ℕ} → x ≡ c.in-Is.literal.0 → x ≡ (plain_term start.args.first start.args.term).code
-  code_is e = e ∙ accepted _ _ (sym (ap said_lit c.in-Is.is) ∙ lit.plain_lit.ensures)
+  code_is : {x : ℕ} → x ≡ c.in-Some.literal.0 → x ≡ (plain_term start.args.first start.args.term).code
+  code_is e = e ∙ accepted _ _ (sym (ap said_lit c.in-Some.is) ∙ lit.plain_lit.ensures)
 
 -- and the weight
 module _ (c : Joined-term) where
   abbrev begin : Start
-  begin = start (goal.at.Joined-term c).In-Is
+  begin = start (goal.at.Joined-term c).In-Some
 
 pub returns-in_default : goal.returns-in_default
 returns-in_default c = absurd (no-refusal _ 5 (sym c.plain_lit.ensures ∙ ap said_lit c.in_default.is))
 
 pub overflow_sub-weights : goal.overflow_sub-weights
-overflow_sub-weights c = minus-fits _ (start (goal.at.overflow_sub-weights c).In-Is).requires.size
+overflow_sub-weights c = minus-fits _ (start (goal.at.overflow_sub-weights c).In-Some).requires.size
 
 pub returns-after-term : goal.returns-after-term
 returns-after-term c =
     let b = begin (goal.at.returns-after-term c).Joined-term in
-    let room = lit (goal.at.returns-after-term c).In-Is in
-    let code = code_is (goal.at.returns-after-term c).In-Is c.code.ensures in
+    let room = lit (goal.at.returns-after-term c).In-Some in
+    let code = code_is (goal.at.returns-after-term c).In-Some c.code.ensures in
     elim c.if-term.branch [
       | then-term w ↦ rw (w.weights-is ∙ weight-negative _ b.requires.size w.if-term.true refl, code)
           (put-there b.args.at _ _ b.args.weights.now b.args.literals.now (omega (arith, room.term_room.ensures, room.if-at-term_room.true)))

@@ -14,7 +14,7 @@ var-read : (c : After-of_file) → said_var c.of_file.result ≡ index 1 c.args.
 var-read c =
     c.of_file.ensures
     ∙ index-of-digits _ _ _
-    (sym (ap said_file_number c.in-Is.is) ∙ c.of_digits.ensures)
+    (sym (ap said_file_number c.in-Some.is) ∙ c.of_digits.ensures)
 
 pub returns-in_default : goal.returns-in_default
 returns-in_default c =
@@ -28,10 +28,10 @@ returns-in_default-of_file c =
 
 pub returns-in_default-lit : goal.returns-in_default-lit
 returns-in_default-lit c =
-    literal-coded _ _ c.in-Is-of_file.variable.0 (sym (ap said_var c.in-Is-of_file.is) ∙ var-read (goal.at.returns-in_default-lit c).After-of_file) (refuse 5)
+    literal-coded _ _ c.in-Some-of_file.variable.0 (sym (ap said_var c.in-Some-of_file.is) ∙ var-read (goal.at.returns-in_default-lit c).After-of_file) (refuse 5)
     (sym (ap said_lit c.in_default-lit.is) ∙ c.lit.ensures)
 
 pub returns : goal.returns
 returns c =
-    literal-coded _ _ c.in-Is-of_file.variable.0 (sym (ap said_var c.in-Is-of_file.is) ∙ var-read (goal.at.returns c).After-of_file) (accept _)
-    (sym (ap said_lit c.in-Is-lit.is) ∙ c.lit.ensures)
+    literal-coded _ _ c.in-Some-of_file.variable.0 (sym (ap said_var c.in-Some-of_file.is) ∙ var-read (goal.at.returns c).After-of_file) (accept _)
+    (sym (ap said_lit c.in-Some-lit.is) ∙ c.lit.ensures)
