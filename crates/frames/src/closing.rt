@@ -4,7 +4,6 @@ ghost use Rattle.definitions.specs.Text.{closing, ending, comparison};
 ghost use Rattle.frames.specs.Said.{said_ending, said_comparison};
 
 use definitions::{Fault, OpbOperator};
-use numbers::NumberRead;
 use operators::OperatorRead;
 
 // Whether a `;` stands in an ending, and the bytes that it takes; or none (7).
@@ -66,7 +65,7 @@ pub fn read_comparison(s: &[u8]) -> ComparisonRead
         return ComparisonRead::Refused(Fault { number: 6 });
     };
     let a = n + blanks::blanks_of(&s[n..]);
-    let NumberRead::Number(number, m) = numbers::read_number(&s[a..]) else {
+    let Some((number, m)) = numbers::read_number(&s[a..]) else {
         return ComparisonRead::Refused(Fault { number: 3 });
     };
     let b = a + m;

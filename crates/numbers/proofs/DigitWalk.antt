@@ -2,20 +2,21 @@
 use mathlib.Core.Path.{◌≡◌, refl, sym, ◌∙◌}
 use mathlib.Core.Bool.{Bool, true, false}
 use mathlib.Core.List.{List, [], ◌∷◌, ◌++◌, append_assoc, append-nil}
-use mathlib.Core.Logic.{inl, inr}
 use Prim.Native.Nat.{ℕ, suc, ◌+◌, ◌-◌, ◌*◌, ◌/◌, ◌≤◌, ◌<◌, min}
 use native.Mathlib.Omega.{arith}
 use native.Mathlib.Numerals.{add-one}
-use lib.Dec.{lit<, eqb}
+use lib.Dec.{lit<}
 use lib.ListN.{length, get_or, take, drop, drop_of_length-le, length-drop}
 use lib.Seq.{drop-cons, take-suc, length-take-le, take_all}
-use types.Run.{OneOf}
+use mir.Syntax.{w64}
+use mir.Val.{SFits}
+use Rattle.std.specs.Prelude.{Some, None, slice_get}
 use Rattle.definitions.specs.Refusal.{fault}
-use Rattle.definitions.specs.Bytes.{plus, minus}
 use Rattle.definitions.specs.Reader.{none, got}
-use Rattle.definitions.specs.Number.{leading, value_on, value, signed, ended, number}
+use Rattle.definitions.specs.Number.{leading, value_on, value, signed, ended}
 use Rattle.definitions.proofs.Numbers.{leading-digit, leading_low, leading-high, leading_length, value-snoc, most}
-use Rattle.definitions.proofs.Numbers.{signed-within, signed-beyond, number-minus, number-plus, ended-none, ended-beyond, ended-got}
+use Rattle.definitions.proofs.Numbers.{signed-within, within_signed, signed-beyond, ended-none, ended-beyond, ended-got}
+use Rattle.definitions.proofs.Whole.{in-true, true-in}
 use Rattle.numbers.specs.declared.Run.{Run}
 use Rattle.numbers.specs.Read.{cap, run_of}
 
@@ -41,9 +42,9 @@ module _ (s : List ℕ) (i m : ℕ) (w : Walked s i m) where
       let v : m ≡ min (value (leading s)) cap = rw p w.size in
       cc
 
-  pub walked_all : length s ≤ i → run i m ≡ run_of s
+  pub walked_all : length s ≤ i → run (length s) m ≡ run_of s
   unfolding leading
-  walked_all h = walked_end (rw (drop_of_length-le s h))
+  walked_all h = let e : length s ≡ i = omega (arith, w.within) in rw e (walked_end (rw (drop_of_length-le s h)))
 
   module _ (h : i < length s) where
     at_front : drop i s ≡ get_or s i 0 ∷ drop (suc i) s
@@ -87,19 +88,26 @@ module _ (negative : Bool) (k : ℕ) (s : List ℕ) (r : Run) (e : r ≡ run_of 
   pub run_none : r.count ≡ 0 → none (fault 3) ≡ ended negative k (leading s)
   run_none z = sym (ended-none negative k (leading s) (sym counted ∙ z))
 
-  pub run-beyond : most negative < r.size → none (fault 3) ≡ ended negative k (leading s)
-  run-beyond h = sym (ended-beyond negative k (leading s) (signed-beyond negative _ (omega (arith, sized))))
+  pub run-beyond : (SFits w64 (signed negative r.size) → ⊥) → none (fault 3) ≡ ended negative k (leading s)
+  run-beyond n =
+      let h : r.size ≤ most negative → ⊥ = λ l. n (true-in _ (signed-within negative _ l)) in
+      sym (ended-beyond negative k (leading s) (signed-beyond negative _ (omega (arith, h, sized))))
 
-  pub run-got : (r.count ≡ 0 → ⊥) → r.size ≤ most negative → got (signed negative r.size) (k + r.count) ≡ ended negative k (leading s)
-  run-got n h =
+  pub run-got : (r.count ≡ 0 → ⊥) → SFits w64 (signed negative r.size)
+      → got (signed negative r.size) (k + r.count) ≡ ended negative k (leading s)
+  run-got n f =
+      let h : r.size ≤ most negative = within_signed negative _ (in-true _ f) in
       let v : r.size ≡ value (leading s) = omega (arith, sized, most-below-cap negative) in
       rw (v, counted) (sym (ended-got negative k (leading s) (λ q. n (counted ∙ q)) (signed-within negative _ (omega arith))))
 
--- ---- a number that begins with a sign of either kind
-pub number-behind-sign : (s : List ℕ) → 0 < length s → OneOf (plus ∷ minus ∷ []) (get_or s 0 0)
-    → number s ≡ ended (eqb (get_or s 0 0) minus) 1 (leading (drop 1 s))
-number-behind-sign s h (inl e) = number-plus s h e ∙ rw e
-number-behind-sign s h (inr e) = number-minus s h e ∙ rw e
+-- ---- the first byte, as the code has it
+pub first-none : (s : List ℕ) → None ≡ slice_get s 0 → length s ≡ 0
+first-none [] e = refl
+first-none (b ∷ s) e = cc
+
+pub first-some : (s : List ℕ) (b : ℕ) → Some b ≡ slice_get s 0 → (0 < length s) × (get_or s 0 0 ≡ b)
+first-some [] b e = cc
+first-some (x ∷ s) b e = (omega arith, cc)
 
 -- the part from 1 on, as the code lends it
 pub rest-is : (s : List ℕ) → take (length s - 1) (drop 1 s) ≡ drop 1 s

@@ -2,19 +2,17 @@
 -- what it is lent.
 use mathlib.Core.Path.{◌≡◌, refl, sym, ◌∙◌}
 use Prim.Native.Nat.{ℕ}
-use native.Mathlib.Omega.{arith}
 use Rattle.numbers.specs.Read.{said}
-use Rattle.numbers.specs.declared.NumberRead.{NumberRead}
-use Rattle.numbers.specs.declared.NumberRead.TheVariants.{Number, Missing}
+use Rattle.std.specs.Prelude.{Option, Some, None, ℤ}
 use Rattle.numbers.proofs.read_run.Reads as read-run
 use Rattle.numbers.proofs.read_number.Reads as read_number
 use Rattle.numbers.proofs.magnitude.Reads as magnitude
 
-pub said-one : (r r' : NumberRead) → said r ≡ said r' → r ≡ r'
-said-one (Number z n) (Number y m) e = cc
-said-one (Number z n) Missing e = let q : ◌≡◌ {A = ℕ} 0 1 = cc in absurd (omega arith)
-said-one Missing (Number y m) e = let q : ◌≡◌ {A = ℕ} 0 1 = cc in absurd (omega arith)
-said-one Missing Missing e = refl
+pub said-one : (r r' : Option (ℤ × ℕ)) → said r ≡ said r' → r ≡ r'
+said-one (Some (z, n)) (Some (y, m)) e = cc
+said-one (Some (z, n)) None e = cc
+said-one None (Some (y, m)) e = cc
+said-one None None e = refl
 
 pub read-run-one : (κs : _) (a : _) (r r' : _) (s s' : _) → read-run.Post κs a r s → read-run.Post κs a r' s' → r ≡ r'
 read-run-one κs a r r' s s' p q = p ∙ sym q

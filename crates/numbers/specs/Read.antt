@@ -1,16 +1,14 @@
 -- What the code's answers to reading say, in the words of the definitions.
-use Rattle.std.specs.Prelude.{ℕ, min, List, length, ℤ}
+use Rattle.std.specs.Prelude.{ℕ, min, List, length, ℤ, Option, Some, None}
 use Rattle.definitions.specs.Refusal.{fault}
 use Rattle.definitions.specs.Reader.{Got, none, got}
 use Rattle.definitions.specs.Number.{leading, value}
-use Rattle.numbers.specs.declared.NumberRead.{NumberRead}
-use Rattle.numbers.specs.declared.NumberRead.TheVariants.{Number, Missing}
 use Rattle.numbers.specs.declared.Run.{Run}
 
 -- "number missing, sign alone, or beyond 64 bits": 3
-abbrev pub said : NumberRead → Got ℤ
-said (Number z n) = got z n
-said Missing = none (fault 3)
+abbrev pub said : Option (ℤ × ℕ) → Got ℤ
+said (Some (z, n)) = got z n
+said None = none (fault 3)
 
 -- A size stops here, so that any number of digits is read. It is one more than 64 signed bits hold at either sign, so a
 -- size that stopped is beyond them,

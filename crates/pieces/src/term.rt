@@ -7,7 +7,6 @@ ghost use Rattle.pieces.specs.Said.{said_term, said_next};
 use definitions::{Beginning, Fault, Options};
 use literal_read::LiteralRead;
 use literals::Lit;
-use numbers::NumberRead;
 
 // A term and the bytes that it takes, or what it is refused for.
 #[derive(Clone, Copy)]
@@ -45,7 +44,7 @@ fn read_weighted(s: &[u8], options: Options, weight: i64) -> TermRead
 pub fn read_term(s: &[u8], options: Options) -> TermRead
     ensures { said_term result ≡ weighted options s.now }
 {
-    let NumberRead::Number(w, n) = numbers::read_number(s) else {
+    let Some((w, n)) = numbers::read_number(s) else {
         return TermRead::Refused(Fault { number: 3 });
     };
     match read_weighted(&s[n..], options, w) {

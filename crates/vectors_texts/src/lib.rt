@@ -3,7 +3,6 @@
 // nothing.
 #![tactic(auto)]
 
-use numbers::NumberRead;
 use outputs::Put;
 use std::io;
 use std::io::Write;
@@ -20,11 +19,11 @@ fn show_blanks<W: Write>(output: &mut W, s: &[u8]) -> io::Result<()> {
 
 fn show_number<W: Write>(output: &mut W, s: &[u8]) -> io::Result<()> {
     match numbers::read_number(s) {
-        NumberRead::Number(z, n) => {
+        Some((z, n)) => {
             say_integer(output, z)?;
             say_size(output, n)
         }
-        NumberRead::Missing => say(output, b" missing"),
+        None => say(output, b" missing"),
     }
 }
 

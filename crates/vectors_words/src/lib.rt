@@ -6,8 +6,6 @@
 
 ghost use Rattle.std.specs.Prelude.{◌≤◌};
 
-use numbers::NumberRead;
-
 // No place of a line.
 const WRONG: usize = 18_446_744_073_709_551_615;
 
@@ -101,7 +99,7 @@ pub fn integer_at(line: &[u8], at: usize) -> Integer {
             next: WRONG,
         };
     }
-    let NumberRead::Number(value, n) = numbers::read_number(&line[at..]) else {
+    let Some((value, n)) = numbers::read_number(&line[at..]) else {
         return Integer {
             value: 0,
             next: WRONG,

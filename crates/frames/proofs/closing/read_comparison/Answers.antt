@@ -20,7 +20,7 @@ use Rattle.operators.specs.Said.{said_operator}
 use Rattle.frames.specs.Said.{said_ending}
 use Rattle.frames.proofs.Closings.{comparison-no-operator, comparison-no-number, comparison-no-ending, comparison-got}
 use Rattle.frames.proofs.closing.read_comparison.Goals as goal
-use Rattle.frames.proofs.closing.read_comparison.Goals.{After-blanks_of, After-read_ending, After-read_number, In-Ending, In-Number, In-Operator}
+use Rattle.frames.proofs.closing.read_comparison.Goals.{After-blanks_of, After-read_ending, After-read_number, In-Ending, In-Some, In-Operator}
 
 module _ (c : In-Operator) where
   abbrev text : List ℕ
@@ -64,21 +64,21 @@ module _ (c : After-read_number) where
   number_by : number (drop (blanks-end behind-blanks) number-text) ≡ said c.read_number.result
   number_by = sym (c.read_number.ensures ∙ ap number (part-is number-text (blanks-end behind-blanks)))
 
-module _ (c : In-Number) where
+module _ (c : In-Some) where
   abbrev at-number : After-read_number
-  at-number = (goal.at.In-Number c).After-read_number
+  at-number = (goal.at.In-Some c).After-read_number
 
   abbrev value : ℤ
-  value = c.in-Number.number
+  value = c.in-Some.number
 
   abbrev number-bytes : ℕ
-  number-bytes = c.in-Number.m
+  number-bytes = c.in-Some.m
 
   abbrev number-end : ℕ
   number-end = blanks-end (behind-blanks at-number) + number-bytes
 
   number-got : number (drop (blanks-end (behind-blanks at-number)) (number-text at-number)) ≡ got value number-bytes
-  number-got = number_by at-number ∙ ap said c.in-Number.is
+  number-got = number_by at-number ∙ ap said c.in-Some.is
 
   number-end-within : number-end ≤ length (number-text at-number)
   number-end-within =
@@ -91,8 +91,8 @@ module _ (c : In-Number) where
       )
 
 module _ (c : After-read_ending) where
-  abbrev behind-number : In-Number
-  behind-number = (goal.at.After-read_ending c).In-Number
+  abbrev behind-number : In-Some
+  behind-number = (goal.at.After-read_ending c).In-Some
 
   abbrev ending-text : List ℕ
   ending-text = number-text (at-number behind-number)

@@ -11,42 +11,42 @@ use mir.Facts.{to_z-of_z}
 use Rattle.definitions.specs.Reader.{got, more}
 use Rattle.definitions.specs.Number.{number}
 use Rattle.definitions.specs.Text.{after_weight, weighted}
-use Rattle.definitions.proofs.Numbers.{number-within}
+use Rattle.definitions.proofs.Numbers.{number-within, number_fits}
 use Rattle.definitions.proofs.Parts.{part-is}
 use Rattle.definitions.proofs.Statements.{within-after-weight}
 use Rattle.numbers.specs.Read.{said}
 use Rattle.pieces.specs.Said.{said_term}
 use Rattle.pieces.proofs.Terms.{weighted-missing, weighted-number}
 use Rattle.pieces.proofs.term.read_term.Goals as goal
-use Rattle.pieces.proofs.term.read_term.Goals.{After-read_weighted, In-Number, Start}
+use Rattle.pieces.proofs.term.read_term.Goals.{After-read_weighted, In-Some, Start}
 
 -- a number is read
-module _ (c : In-Number) where
+module _ (c : In-Some) where
   abbrev start : Start
-  start = (goal.at.In-Number c).Start
+  start = (goal.at.In-Some c).Start
 
   abbrev text : List ℕ
   text = start.args.s.now
 
   abbrev weight : ℤ
-  weight = c.in-Number.w
+  weight = c.in-Some.w
 
   abbrev count : ℕ
-  count = c.in-Number.n
+  count = c.in-Some.n
 
   read : got weight count ≡ number text
-  read = sym (ap said c.in-Number.is) ∙ c.read_number.ensures
+  read = sym (ap said c.in-Some.is) ∙ c.read_number.ensures
 
   taken : count ≤ length text
   taken = (number-within text (sym read)).1
 
   weight-fits : SFits w64 weight
-  weight-fits = record { sfits = c.in-Number.known_told-1-own.given.0.1 }
+  weight-fits = number_fits text (sym read)
 
 -- and what stands behind it
 module _ (c : After-read_weighted) where
-  abbrev place : In-Number
-  place = (goal.at.After-read_weighted c).In-Number
+  abbrev place : In-Some
+  place = (goal.at.After-read_weighted c).In-Some
 
   behind : said_term c.read_weighted.result ≡ after_weight (start place).args.options (weight place) (drop (count place) (text place))
   behind = rw (part-is (text place) (count place), to_z-of_z (weight-fits place)) at c.read_weighted.ensures
