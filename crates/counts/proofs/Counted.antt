@@ -1,4 +1,5 @@
 -- What the first walk says of a file, and what was counted, held against the room.
+use Rattle.std.specs.Prelude.{Result}
 use Prim.Native.Nat.{ℕ, ◌≤◌, ◌<◌}
 use mathlib.Core.Path.{◌≡◌}
 use mathlib.Core.List.{List}
@@ -9,8 +10,8 @@ use Rattle.definitions.specs.Limits.{file_limit}
 use Rattle.definitions.specs.Refusal.{refusal}
 use Rattle.definitions.specs.Table.{refused, accepted, counted}
 use Rattle.definitions.specs.File.{lines_of, statements, file}
-use Rattle.definitions.specs.declared.Counted.{Counted}
 use Rattle.definitions.specs.declared.Options.{Options}
+use Rattle.definitions.specs.declared.Refusal.{Refusal}
 use Rattle.definitions.specs.declared.Totals.{Totals}
 use Rattle.counts.specs.Fitted.{fitted_totals}
 
@@ -21,7 +22,7 @@ module _ (o : Options) (s : List ℕ) where
   unfolding file
   count_long h = rw (lt-leb (length s) file_limit h)
 
-  pub count-short : length s ≤ file_limit → (r : Counted) → said_counted r ≡ counted (lines_of (statements o s))
+  pub count-short : length s ≤ file_limit → (r : Result Totals Refusal) → said_counted r ≡ counted (lines_of (statements o s))
       → said_counted r ≡ counted (file o s)
   unfolding file
   count-short h r e = rw (le-leb (length s) file_limit h) e

@@ -8,10 +8,10 @@ ghost use Rattle.definitions.specs.Table.{counted};
 ghost use Rattle.definitions.specs.File.{lines_of, statements, file};
 ghost use Rattle.counts.specs.Fitted.{fitted_totals};
 
-use definitions::{Counted, FILE_LIMIT, Options, Refusal, Totals};
+use definitions::{FILE_LIMIT, Options, Refusal, Totals};
 use statements::StatementRead;
 
-fn count_statements(s: &[u8], options: Options) -> Counted
+fn count_statements(s: &[u8], options: Options) -> Result<Totals, Refusal>
     ensures { said_counted result ≡ counted (lines_of (statements options s.now)) }
 {
     let mut rows: usize = 0;
@@ -20,10 +20,10 @@ fn count_statements(s: &[u8], options: Options) -> Counted
     loop {
         match statements::opb_data(&s[at..], options) {
             StatementRead::End => {
-                return Counted::Table(Totals { rows, terms });
+                return Ok(Totals { rows, terms });
             }
             StatementRead::Refused(refusal) => {
-                return Counted::Refused(Refusal {
+                return Err(Refusal {
                     number: refusal.number,
                     place: at as u64 + refusal.place,
                 });
@@ -38,11 +38,11 @@ fn count_statements(s: &[u8], options: Options) -> Counted
 }
 
 // "Reader's order: 1; then statement by statement": what a file holds, whatever room there is for it.
-pub fn count_file(s: &[u8], options: Options) -> Counted
+pub fn count_file(s: &[u8], options: Options) -> Result<Totals, Refusal>
     ensures { said_counted result ≡ counted (file options s.now) }
 {
     if s.len() > FILE_LIMIT {
-        return Counted::Refused(Refusal {
+        return Err(Refusal {
             number: 1,
             place: 0,
         });
@@ -51,25 +51,25 @@ pub fn count_file(s: &[u8], options: Options) -> Counted
 }
 
 // "9, then 10, once the whole file has read well": what was counted, held against the room for rows and for terms.
-pub fn fitted(counted: Counted, rows: usize, terms: usize) -> Counted
+pub fn fitted(
+    counted: Result<Totals, Refusal>,
+    rows: usize,
+    terms: usize,
+) -> Result<Totals, Refusal>
     ensures { said_counted result ≡ fitted_totals rows terms (said_counted counted) }
 {
-    match counted {
-        Counted::Refused(early) => Counted::Refused(early),
-        Counted::Table(all) => {
-            if rows < all.rows {
-                return Counted::Refused(Refusal {
-                    number: 9,
-                    place: all.rows as u64,
-                });
-            }
-            if terms < all.terms {
-                return Counted::Refused(Refusal {
-                    number: 10,
-                    place: all.terms as u64,
-                });
-            }
-            Counted::Table(all)
-        }
+    let all = counted?;
+    if rows < all.rows {
+        return Err(Refusal {
+            number: 9,
+            place: all.rows as u64,
+        });
     }
+    if terms < all.terms {
+        return Err(Refusal {
+            number: 10,
+            place: all.terms as u64,
+        });
+    }
+    Ok(all)
 }

@@ -80,14 +80,6 @@ pub struct Totals {
     pub terms: usize,
 }
 
-// What a call over a table answers: a refusal, or how many rows and terms there are. specs/Answers.antt says what each
-// case is.
-#[derive(Clone, Copy, Debug, PartialEq, Eq)]
-pub enum Counted {
-    Refused(Refusal),
-    Table(Totals),
-}
-
 // What a call that fills a lent output or lent columns answers: a refusal, or how much was put there.
 #[derive(Clone, Copy, Debug, PartialEq, Eq)]
 pub enum Length {

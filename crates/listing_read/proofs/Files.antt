@@ -1,5 +1,6 @@
 -- What was read is listed: a table that was read holds the rows that were read, so its house lines are those of the
 -- rows.
+use Rattle.std.specs.Prelude.{Result, Ok, Err}
 use mathlib.Core.Path.{◌≡◌, refl, sym, ap, ◌∙◌}
 use mathlib.Core.Bool.{Bool, true, false, cond}
 use mathlib.Core.List.{List}
@@ -15,8 +16,6 @@ use Rattle.definitions.specs.Table.{Table, Outcome, refused, accepted, entries, 
 use Rattle.definitions.specs.Answers.{said_counted}
 use Rattle.definitions.specs.declared.Refusal.{Refusal}
 use Rattle.definitions.specs.declared.Totals.{Totals}
-use Rattle.definitions.specs.declared.Counted.{Counted}
-use Rattle.definitions.specs.declared.Counted.TheVariants as answer
 use Rattle.definitions.specs.declared.Length.{Length}
 use Rattle.definitions.specs.File.{first_at, file, reading}
 use Rattle.definitions.specs.Write.{fitted_text, output_after}
@@ -72,9 +71,9 @@ module _ (first : ℕ) (s : List ℕ) (t : Table) where
       let good = statements-good (first_at first) s ls g.end g.found in
       filled-listed first ls t f.terms (good-indexed first ls good) (good-numbered first ls good)
 
-  module _ (o o' : List ℕ) (t' : Table) (a : Counted) (reads : Reads (first_at first) s t a t') where
+  module _ (o o' : List ℕ) (t' : Table) (a : Result Totals Refusal) (reads : Reads (first_at first) s t a t') where
     -- ---- a refusal
-    module _ (e : Refusal) (q : a ≡ answer.Refused e) where
+    module _ (e : Refusal) (q : a ≡ Err e) where
       text-is : refused_line (refusal e.number e.place) ≡ listing first (reading (first_at first) s t)
       unfolding listing
       text-is = rw (refused-count e (reading (first_at first) s t) (sym (ap said_counted q) ∙ reads.answer))
@@ -90,7 +89,7 @@ module _ (first : ℕ) (s : List ℕ) (t : Table) where
           }
 
     -- ---- a table
-    module _ (n : Totals) (q : a ≡ answer.Table n) where
+    module _ (n : Totals) (q : a ≡ Ok n) where
       counts : Counts n.rows (reading (first_at first) s t)
       counts = accepted-count n (reading (first_at first) s t) (sym (ap said_counted q) ∙ reads.answer)
 

@@ -5,7 +5,7 @@
 ghost use Rattle.definitions.specs.Table.{table};
 ghost use Rattle.listing_read.specs.ListsRead.{ListsRead};
 
-use definitions::{Counted, Options};
+use definitions::Options;
 
 // Where the lines do not fit, the output stays as it is; the columns hold what was read all the same.
 pub fn list_read(
@@ -26,13 +26,13 @@ pub fn list_read(
     match reader::parse_opb_data(
         file, options, kinds, firsts, counts, bounds, weights, literals,
     ) {
-        Counted::Refused(e) => {
-            refusals::list_refusal(e.number, e.place, out);
-        }
-        Counted::Table(found) => {
+        Ok(found) => {
             house::list_table(
                 kinds, firsts, counts, bounds, weights, literals, found.rows, first, out,
             );
+        }
+        Err(e) => {
+            refusals::list_refusal(e.number, e.place, out);
         }
     }
 }

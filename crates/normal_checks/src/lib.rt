@@ -11,7 +11,7 @@ ghost use Rattle.definitions.specs.Table.{table, counted};
 ghost use Rattle.normal_checks.specs.FirstWalk.{terms_checked, normal_of, term_count, normal_rows, totals_needed, totals_within};
 ghost use Rattle.normal_checks.specs.Said.{said_row};
 
-use definitions::{COMMENT, Counted, OBJECTIVE, Refusal, Totals, WEIGHT_LIMIT};
+use definitions::{COMMENT, OBJECTIVE, Refusal, Totals, WEIGHT_LIMIT};
 
 // The count of terms of a row, or the number of its refusal.
 #[derive(Drop)]
@@ -69,10 +69,10 @@ fn add_needed(count: usize, n: usize) -> usize
     lengths::add_needed(count as u64, n as u64) as usize
 }
 
-fn refused(number: u8, place: usize) -> Counted
-    ensures { result ≡ Counted.Refused (record { number = number; place = place }) }
+fn refused(number: u8, place: usize) -> Result<Totals, Refusal>
+    ensures { result ≡ Err (record { number = number; place = place }) }
 {
-    Counted::Refused(Refusal {
+    Err(Refusal {
         number,
         place: place as u64,
     })
@@ -86,7 +86,7 @@ fn count_rows(
     bounds: &[i64],
     weights: &[i64],
     literals: &[u32],
-) -> Counted
+) -> Result<Totals, Refusal>
     ensures { said_counted result ≡ totals_needed (normal_rows (table kinds.now firsts.now counts.now bounds.now weights.now literals.now)) }
 {
     let rows = columns::row_room(kinds, firsts, counts, bounds);
@@ -103,11 +103,11 @@ fn count_rows(
         }
         i += 1;
     }
-    Counted::Table(Totals { rows, terms })
+    Ok(Totals { rows, terms })
 }
 
 // "Then 9, 10."
-fn within(totals: Totals, rows: usize, terms: usize) -> Counted
+fn within(totals: Totals, rows: usize, terms: usize) -> Result<Totals, Refusal>
     ensures { said_counted result ≡ totals_within rows terms totals }
 {
     if rows < totals.rows {
@@ -116,7 +116,7 @@ fn within(totals: Totals, rows: usize, terms: usize) -> Counted
     if terms < totals.terms {
         return refused(10, totals.terms);
     }
-    Counted::Table(totals)
+    Ok(totals)
 }
 
 // What the call is to answer: the rows and terms that there are to fill, or the refusal.
@@ -133,16 +133,12 @@ pub fn measure_normal(
     outbounds: &[i64],
     outweights: &[i64],
     outliterals: &[u32],
-) -> Counted
+) -> Result<Totals, Refusal>
     ensures { said_counted result ≡ counted (normalising (table kinds.now firsts.now counts.now bounds.now weights.now literals.now)
         (table outkinds.now outfirsts.now outcounts.now outbounds.now outweights.now outliterals.now)) }
 {
-    match count_rows(kinds, firsts, counts, bounds, weights, literals) {
-        Counted::Refused(refusal) => Counted::Refused(refusal),
-        Counted::Table(totals) => {
-            let rows = columns::row_room(outkinds, outfirsts, outcounts, outbounds);
-            let terms = columns::term_room(outweights, outliterals);
-            within(totals, rows, terms)
-        }
-    }
+    let totals = count_rows(kinds, firsts, counts, bounds, weights, literals)?;
+    let rows = columns::row_room(outkinds, outfirsts, outcounts, outbounds);
+    let terms = columns::term_room(outweights, outliterals);
+    within(totals, rows, terms)
 }

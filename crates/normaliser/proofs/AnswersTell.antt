@@ -1,4 +1,5 @@
 -- What an answer tells of the rows.
+use Rattle.std.specs.Prelude.{Ok, Err}
 use mathlib.Core.Path.{◌≡◌, refl, sym, ap, ◌∙◌}
 use mathlib.Core.List.{List}
 use borrow.Author.Tests.{le-leb}
@@ -7,7 +8,6 @@ use Rattle.definitions.specs.declared.Refusal.{Refusal}
 use Rattle.definitions.specs.Row.{Line}
 use Rattle.definitions.specs.Table.{Table, row_room, term_room, Outcome, refused, accepted, all_terms, filled, fitted, counted, after}
 use Rattle.definitions.specs.declared.Totals.{Totals}
-use Rattle.definitions.specs.declared.Counted.TheVariants as answer
 use Rattle.definitions.specs.Normal.{normalising}
 use Rattle.definitions.proofs.Columns.{fitted-accepted}
 use Rattle.definitions.proofs.Truths.{never}
@@ -17,11 +17,11 @@ use Rattle.normaliser.specs.Normalises.{Normalises}
 
 module _ (t o : Table) where
   -- a refused call changes nothing
-  pub normal-refused : (i : Refusal) → refused i ≡ counted (normalising t o) → Normalises t o (answer.Refused i) o
+  pub normal-refused : (i : Refusal) → refused i ≡ counted (normalising t o) → Normalises t o (Err i) o
   unfolding after
   normal-refused i e = by (normalising t o) refl e
     where
-      by : (q : Outcome (List Line)) → normalising t o ≡ q → refused i ≡ counted q → Normalises t o (answer.Refused i) o
+      by : (q : Outcome (List Line)) → normalising t o ≡ q → refused i ≡ counted q → Normalises t o (Err i) o
       by (refused j) a f = record { answer = e; after = ap (λ (q : Outcome (List Line)). after q o) (sym a) }
       by (accepted ls) a f = never (cc)
 
@@ -37,7 +37,7 @@ module _ (t o : Table) where
             record { given = ls; accepts = g.accepts; rows = g.rows; terms = g.terms }
 
     pub normal-filled : (o' : Table) → ((ls : List Line) → normal_rows t ≡ accepted ls → o' ≡ filled ls o)
-        → Normalises t o (answer.Table x) o'
+        → Normalises t o (Ok x) o'
     unfolding normalising fitted after
     normal-filled o' d =
         let r = ready in

@@ -1,6 +1,7 @@
 -- What an accepted answer means. The rows of the table lent are lines; the first rows of the table left are those lines
 -- made normal, one for one. For every assignment each constraint holds exactly where it held and each objective has the
 -- value that it had; no weight is below 0; and normalising what is left would change nothing more.
+use Rattle.std.specs.Prelude.{Ok}
 use Prim.Native.Nat.{ℕ}
 use mathlib.Core.Path.{◌≡◌, refl, sym, ap, ap₂, ◌∙◌}
 use mathlib.Core.Bool.{Bool, true, false, cond, ◌&&◌}
@@ -24,7 +25,6 @@ use Rattle.definitions.specs.Normal.{normal_term, normal, normal_line, normal_in
 use Rattle.definitions.specs.Write.{weighs}
 use Rattle.definitions.proofs.Meanings.{normal-holds, normal-value}
 use Rattle.normaliser.specs.Meant.{Meaning, meaning_by, goal, meaning_of, normalised}
-use Rattle.definitions.specs.declared.Counted.TheVariants as answer
 use Rattle.definitions.proofs.Columns.{Fits, rows_both, rows-again, fitted-accepted}
 use Rattle.laws.proofs.Tables.{Indexed}
 use Rattle.laws.proofs.FilledTables.{filled-back}
@@ -196,7 +196,7 @@ module _ (t o : Table) where
 
 -- ---- the code: the columns as `normalise` was lent them, and as it leaves them
 
-pub normalise-meant : (κs : _) (a : _) (n m : ℕ) (s : _) → normalise.Post κs a (answer.Table (totals_of n m)) s
+pub normalise-meant : (κs : _) (a : _) (n m : ℕ) (s : _) → normalise.Post κs a (Ok (totals_of n m)) s
     → Meant
     (table a.0.now a.1.0.now a.1.1.0.now a.1.1.1.0.now a.1.1.1.1.0.now a.1.1.1.1.1.0.now)
     (table a.1.1.1.1.1.1.0.now a.1.1.1.1.1.1.1.0.now a.1.1.1.1.1.1.1.1.0.now

@@ -8,7 +8,7 @@ mod fill;
 ghost use Rattle.definitions.specs.Table.{table};
 ghost use Rattle.normaliser.specs.Normalises.{Normalises};
 
-use definitions::Counted;
+use definitions::{Refusal, Totals};
 
 // "Row by row 11, 8; then 9, 10."
 pub fn normalise(
@@ -24,12 +24,12 @@ pub fn normalise(
     outbounds: &mut [i64],
     outweights: &mut [i64],
     outliterals: &mut [u32],
-) -> Counted
+) -> Result<Totals, Refusal>
     ensures { Normalises (table kinds.now firsts.now counts.now bounds.now weights.now literals.now)
         (table outkinds.old outfirsts.old outcounts.old outbounds.old outweights.old outliterals.old) result
         (table outkinds.new outfirsts.new outcounts.new outbounds.new outweights.new outliterals.new) }
 {
-    match normal_checks::measure_normal(
+    let totals = normal_checks::measure_normal(
         kinds,
         firsts,
         counts,
@@ -42,24 +42,20 @@ pub fn normalise(
         outbounds,
         outweights,
         outliterals,
-    ) {
-        Counted::Refused(refusal) => Counted::Refused(refusal),
-        Counted::Table(totals) => {
-            fill::fill_rows(
-                kinds,
-                firsts,
-                counts,
-                bounds,
-                weights,
-                literals,
-                outkinds,
-                outfirsts,
-                outcounts,
-                outbounds,
-                outweights,
-                outliterals,
-            );
-            Counted::Table(totals)
-        }
-    }
+    )?;
+    fill::fill_rows(
+        kinds,
+        firsts,
+        counts,
+        bounds,
+        weights,
+        literals,
+        outkinds,
+        outfirsts,
+        outcounts,
+        outbounds,
+        outweights,
+        outliterals,
+    );
+    Ok(totals)
 }

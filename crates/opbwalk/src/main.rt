@@ -4,7 +4,7 @@
 // on standard error.
 #![tactic(auto)]
 
-use definitions::{Counted, Entry, Length, Options, Refusal, Totals};
+use definitions::{Entry, Length, Options, Refusal, Totals};
 use outputs::Put;
 use std::io;
 use std::io::Write;
@@ -185,28 +185,14 @@ fn list<O: Write, E: Write>(output: &mut O, errors: &mut E, file: &[u8]) -> io::
 // "9, then 10, once the whole file has read well"
 fn show<O: Write, E: Write>(output: &mut O, errors: &mut E, file: &[u8]) -> io::Result<()> {
     let options = Options { first: 1 };
-    match tallies::count_steps(file, options) {
-        Counted::Refused(refusal) => refuse(output, errors, refusal),
-        Counted::Table(found) => {
-            if found.rows > ROWS {
-                let refusal = Refusal {
-                    number: 9,
-                    place: found.rows as u64,
-                };
-                return refuse(output, errors, refusal);
-            }
-            if found.terms > TERMS {
-                let refusal = Refusal {
-                    number: 10,
-                    place: found.terms as u64,
-                };
-                return refuse(output, errors, refusal);
-            }
+    match counts::fitted(tallies::count_steps(file, options), ROWS, TERMS) {
+        Ok(found) => {
             if print_head(output, errors, found)? {
                 list(output, errors, file)?;
             }
             Ok(())
         }
+        Err(refusal) => refuse(output, errors, refusal),
     }
 }
 

@@ -1,5 +1,6 @@
 -- What a call leaves behind: a refusal the output and the tables as they were; else the text, and what reading it
 -- gives.
+use Rattle.std.specs.Prelude.{Result}
 use Prim.Native.Nat.{ℕ, ◌≤◌}
 use mathlib.Core.Path.{◌≡◌, refl, sym, ap, ◌∙◌}
 use mathlib.Core.List.{List}
@@ -18,7 +19,6 @@ use Rattle.definitions.specs.Back.{options_of}
 use Rattle.definitions.specs.declared.Mode.{Mode}
 use Rattle.definitions.proofs.ThereAndBack.{there_and_back}
 use Rattle.reader.specs.Reads.{Reads}
-use Rattle.definitions.specs.declared.Counted.{Counted}
 use Rattle.definitions.specs.declared.Length.{Length}
 use Rattle.definitions.proofs.Truths.{never}
 use Rattle.writer.specs.Writes.{Writes}
@@ -113,7 +113,7 @@ module _ (m : Mode) (t : Table) (text o : List ℕ) (new : Table) where
     part-is-text : take l o' ≡ good.bytes
     part-is-text = taken l good.bytes o o' output-is good.long
 
-    pub came-back : (a : Counted) (new' : Table) → Reads (options_of m) (take l o') new a new' → Returns m t text o new (Back l n k) o' new'
+    pub came-back : (a : Result Totals Refusal) (new' : Table) → Reads (options_of m) (take l o') new a new' → Returns m t text o new (Back l n k) o' new'
     came-back a new' r =
         let q : Reads (options_of m) good.bytes new a new' = rw part-is-text at r in
         record {

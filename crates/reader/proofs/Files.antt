@@ -1,4 +1,5 @@
 -- What the public entry answers and leaves: what the first walk counted, held against the room, is what `reading` says.
+use Rattle.std.specs.Prelude.{Result, Err}
 use Prim.Native.Nat.{ℕ, ◌≤◌}
 use mathlib.Core.Path.{◌≡◌, refl, sym, ap, ◌∙◌}
 use mathlib.Core.Bool.{Bool, true, false, cond}
@@ -15,8 +16,6 @@ use Rattle.definitions.specs.Row.{Line, terms_of}
 use Rattle.definitions.specs.Table.{Table, row_room, term_room, Outcome, refused, accepted, all_terms, fitted, totals_of, counted, after}
 use Rattle.definitions.specs.Text.{statement, in_file}
 use Rattle.definitions.specs.File.{statements, file, reading}
-use Rattle.definitions.specs.declared.Counted.{Counted}
-use Rattle.definitions.specs.declared.Counted.TheVariants as count
 use Rattle.definitions.specs.declared.Options.{Options}
 use Rattle.definitions.specs.declared.Refusal.{Refusal}
 use Rattle.definitions.specs.declared.Totals.{Totals}
@@ -90,13 +89,13 @@ module _ (o : Options) (s : List ℕ) (t : Table) where
           (needed-small (length ls) (omega (arith, f.within, few-rows o s ls f.end f.found)))
           (needed-small (length (all_terms ls)) (omega (arith, f.within, few-terms o s ls f.end f.found)))
 
-  pub reading-said : (x y : Counted) → said_counted y ≡ fitted_totals (row_room t) (term_room t) (said_counted x)
+  pub reading-said : (x y : Result Totals Refusal) → said_counted y ≡ fitted_totals (row_room t) (term_room t) (said_counted x)
       → said_counted x ≡ counted (file o s)
       → said_counted y ≡ counted (reading o s t)
   reading-said x y e q = e ∙ ap (fitted_totals (row_room t) (term_room t)) q ∙ fitted-is
 
   -- a refusal leaves the table as it was
-  pub read-refused : (r : Refusal) → refused r ≡ counted (reading o s t) → Reads o s t (count.Refused r) t
+  pub read-refused : (r : Refusal) → refused r ≡ counted (reading o s t) → Reads o s t (Err r) t
   unfolding after
   read-refused r e = record { answer = e; after = by (reading o s t) refl }
     where

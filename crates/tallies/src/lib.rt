@@ -7,11 +7,11 @@ ghost use Rattle.definitions.specs.Answers.{said_counted};
 ghost use Rattle.definitions.specs.Table.{counted};
 ghost use Rattle.definitions.specs.File.{file};
 
-use definitions::{Counted, Options, Totals};
+use definitions::{Options, Refusal, Totals};
 use walker::Stepped;
 
 // "with the same answers": what is counted of the file as it is read at once, or its refusal of 1 to 8.
-pub fn count_steps(s: &[u8], options: Options) -> Counted
+pub fn count_steps(s: &[u8], options: Options) -> Result<Totals, Refusal>
     ensures { said_counted result ≡ counted (file options s.now) }
 {
     let mut rows: usize = 0;
@@ -20,10 +20,10 @@ pub fn count_steps(s: &[u8], options: Options) -> Counted
     loop {
         match walker::step_at(s, options, at) {
             Stepped::End => {
-                return Counted::Table(Totals { rows, terms });
+                return Ok(Totals { rows, terms });
             }
             Stepped::Refused(refusal) => {
-                return Counted::Refused(refusal);
+                return Err(refusal);
             }
             Stepped::Line { entry, next } => {
                 rows += 1;

@@ -2,7 +2,7 @@
 // prints all of it, or answers with the error of a write, which leaves some of it printed. Assumes nothing.
 #![tactic(auto)]
 
-use definitions::Counted;
+use definitions::{Refusal, Totals};
 use std::io;
 use std::io::Write;
 
@@ -46,10 +46,10 @@ pub fn say_refusal<W: Write>(output: &mut W, number: u8, place: u64) -> io::Resu
     say_count(output, place)
 }
 
-pub fn say_counted<W: Write>(output: &mut W, answer: Counted) -> io::Result<()> {
+pub fn say_counted<W: Write>(output: &mut W, answer: Result<Totals, Refusal>) -> io::Result<()> {
     match answer {
-        Counted::Refused(why) => say_refusal(output, why.number, why.place),
-        Counted::Table(found) => {
+        Err(why) => say_refusal(output, why.number, why.place),
+        Ok(found) => {
             say(output, b" table")?;
             say_size(output, found.rows)?;
             say_size(output, found.terms)

@@ -4,19 +4,16 @@ use Rattle.counts.proofs.fitted.Goals as goal
 
 pub returns-then-rows-all : goal.returns-then-rows-all
 returns-then-rows-all c =
-    rw c.in-Table.is
-    (rows-beyond c.args.rows c.args.terms c.in-Table.all c.if-rows-all.true)
+    rw c.in_ok-all.was
+    (rows-beyond c.args.rows c.args.terms c.in_ok-all.all c.if-rows-all.true)
 
 pub returns-then-terms-all : goal.returns-then-terms-all
 returns-then-terms-all c =
-    rw c.in-Table.is
-    (terms-beyond c.args.rows c.args.terms c.in-Table.all c.if-rows-all.false
+    rw c.in_ok-all.was
+    (terms-beyond c.args.rows c.args.terms c.in_ok-all.all c.if-rows-all.false
     c.if-terms-all.true)
 
-pub returns-in-Refused : goal.returns-in-Refused
-returns-in-Refused c = rw c.in-Refused.is
-
-pub returns-else-terms-all : goal.returns-else-terms-all
-returns-else-terms-all c =
-    rw c.in-Table.is
-    (both-fit c.args.rows c.args.terms c.in-Table.all c.if-rows-all.false c.if-terms-all.false)
+pub returns : goal.returns
+returns c =
+    rw c.in_ok-all.was
+    (both-fit c.args.rows c.args.terms c.in_ok-all.all c.if-rows-all.false c.if-terms-all.false)

@@ -18,14 +18,14 @@ module _ (c : After-parse_opb_data) where
   lent = table start.args.kinds.now start.args.firsts.now start.args.counts.now start.args.bounds.now
       start.args.weights.now start.args.literals.now
 
-pub returns-in-Refused : goal.returns-in-Refused
-returns-in-Refused c =
-    let d = (goal.at.returns-in-Refused c).After-parse_opb_data in
+pub returns-in-Err : goal.returns-in-Err
+returns-in-Err c =
+    let d = (goal.at.returns-in-Err c).After-parse_opb_data in
     refused-lists c.args.first c.args.file.now (lent d) c.args.out.now _ (left d) c.parse_opb_data.result
-    c.parse_opb_data.ensures _ c.in-Refused.is c.list_refusal.result c.list_refusal.ensures
+    c.parse_opb_data.ensures _ c.in-Err.is c.list_refusal.result c.list_refusal.ensures
 
-pub returns-in-Table : goal.returns-in-Table
-returns-in-Table c =
-    let d = (goal.at.returns-in-Table c).After-parse_opb_data in
+pub returns-in-Ok : goal.returns-in-Ok
+returns-in-Ok c =
+    let d = (goal.at.returns-in-Ok c).After-parse_opb_data in
     read-lists c.args.first c.args.file.now (lent d) c.args.out.now _ (left d) c.parse_opb_data.result
-    c.parse_opb_data.ensures _ c.in-Table.is c.list_table.result c.list_table.ensures
+    c.parse_opb_data.ensures _ c.in-Ok.is c.list_table.result c.list_table.ensures

@@ -1,5 +1,6 @@
 -- `parse_opb_data` meets its contract: what the first walk counted, held against the room, is what `reading` says
 -- (proofs/Files.antt).
+use Rattle.std.proofs.lemmas.Result.{err_from_is_err_and}
 use mathlib.Core.Path.{◌≡◌, sym, ap, ◌∙◌}
 use Rattle.definitions.specs.Answers.{said_counted}
 use Rattle.definitions.specs.Table.{Table, table, counted}
@@ -27,16 +28,17 @@ module _ (c : After-fitted) where
 pub fill_file-requires : goal.fill_file-requires
 fill_file-requires c =
     let p = (goal.at.fill_file-requires c).After-fitted in
-    ready _ _ (lent p) _ (sym (ap said_counted c.in-Table.is) ∙ said p)
+    ready _ _ (lent p) _ (sym (ap said_counted c.in_ok-found.was) ∙ said p)
 
-pub returns-in-Refused : goal.returns-in-Refused
-returns-in-Refused c =
-    let p = (goal.at.returns-in-Refused c).After-fitted in
-    read-refused _ _ (lent p) _ (sym (ap said_counted c.in-Refused.is) ∙ said p)
+pub returns-in_err-found : goal.returns-in_err-found
+returns-in_err-found c =
+    let p = (goal.at.returns-in_err-found c).After-fitted in
+    let e = err_from_is_err_and c.from_residual.result c.from_residual.ensures.1 in
+    rw (e.1, e.2) (read-refused _ _ (lent p) _ (sym (ap said_counted c.in_err-found.was) ∙ said p))
 
-pub returns-in-Table : goal.returns-in-Table
-returns-in-Table c =
+pub returns : goal.returns
+returns c =
     record {
-      answer = sym (ap said_counted c.in-Table.is) ∙ said (goal.at.returns-in-Table c).After-fitted;
+      answer = sym (ap said_counted c.in_ok-found.was) ∙ said (goal.at.returns c).After-fitted;
       after = c.fill_file.ensures;
     }
