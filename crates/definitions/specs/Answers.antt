@@ -3,13 +3,11 @@ use Rattle.std.specs.Prelude.{ℕ, Result, Ok, Err}
 use Rattle.definitions.specs.Refusal.{Refusal}
 use Rattle.definitions.specs.Table.{Outcome, refused, accepted}
 use Rattle.definitions.specs.declared.Totals.{Totals}
-use Rattle.definitions.specs.declared.Length.{Length}
-use Rattle.definitions.specs.declared.Length.TheVariants as lengths
 
 abbrev pub said_counted : Result Totals Refusal → Outcome Totals
 said_counted (Ok n) = accepted n
 said_counted (Err r) = refused r
 
-abbrev pub said_length : Length → Outcome ℕ
-said_length (lengths.Refused r) = refused r
-said_length (lengths.Is n) = accepted n
+abbrev pub said_length : Result ℕ Refusal → Outcome ℕ
+said_length (Err r) = refused r
+said_length (Ok n) = accepted n

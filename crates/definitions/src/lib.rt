@@ -80,13 +80,6 @@ pub struct Totals {
     pub terms: usize,
 }
 
-// What a call that fills a lent output or lent columns answers: a refusal, or how much was put there.
-#[derive(Clone, Copy, Debug, PartialEq, Eq)]
-pub enum Length {
-    Refused(Refusal),
-    Is(usize),
-}
-
 // One row in the columns of a table: "its first term (the count of terms before it), count of terms and bound" (01,
 // "Numbers and tables").
 #[derive(Clone, Copy, Debug, PartialEq, Eq)]

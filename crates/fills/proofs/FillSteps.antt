@@ -1,5 +1,6 @@
 -- What filling the terms of the statement at an offset answers and leaves: the end, the step's refusal, and what
 -- `fill_terms` does.
+use Rattle.std.specs.Prelude.{Result, Ok, Err}
 use Prim.Native.Nat.{ℕ, ◌≤◌}
 use mathlib.Core.Path.{◌≡◌, sym, ap, ◌∙◌}
 use mathlib.Core.Bool.{Bool, true, false, cond}
@@ -17,8 +18,6 @@ use Rattle.definitions.specs.Table.{Outcome}
 use Rattle.definitions.specs.Text.{statement}
 use Rattle.definitions.specs.Stepping.{Stepped, ended, stopped, stepped, stepped_by, step_at, terms_fitted, terms_by, columns_room, terms_at_step}
 use Rattle.definitions.specs.declared.Entry.{Entry}
-use Rattle.definitions.specs.declared.Length.{Length}
-use Rattle.definitions.specs.declared.Length.TheVariants.{Refused, Is}
 use Rattle.definitions.specs.declared.Options.{Options}
 use Rattle.definitions.proofs.SameAnswers.{step-forward}
 use Rattle.definitions.proofs.Truths.{never}
@@ -37,10 +36,10 @@ module _ (o : Options) (s : List ℕ) (at : ℕ) (w : List ℤ) (l : List ℕ) w
   unfolding terms_at_step
   answers x e = ap (terms_by (columns_room w l)) e
 
-  pub fill-ended : ended ≡ brief_stepped (step_at o s at) → FillsTerms answer w l (Is 0) w l
+  pub fill-ended : ended ≡ brief_stepped (step_at o s at) → FillsTerms answer w l (Ok 0) w l
   fill-ended e = no-terms answer w l (answers ended (brief-ended _ e))
 
-  pub fill-stopped : (r : Refusal) → stopped r ≡ brief_stepped (step_at o s at) → FillsTerms answer w l (Refused r) w l
+  pub fill-stopped : (r : Refusal) → stopped r ≡ brief_stepped (step_at o s at) → FillsTerms answer w l (Err r) w l
   fill-stopped r e = refusing answer w l r (answers (stopped r) (brief-stopped _ r e))
 
   module _ (b : Entry) (n : ℕ) (e : stepped b n ≡ brief_stepped (step_at o s at)) where
@@ -61,7 +60,7 @@ module _ (o : Options) (s : List ℕ) (at : ℕ) (w : List ℤ) (l : List ℕ) w
         by true (bad r) y q = never (cc)
         by true (item z m) y q = ap (terms_fitted (columns_room w l)) (terms-in-file 0 z ∙ sym (terms-in-file at z))
 
-    pub fill-line : (r : Length) (w' : List ℤ) (l' : List ℕ)
+    pub fill-line : (r : Result ℕ Refusal) (w' : List ℤ) (l' : List ℕ)
         → FillsTerms (terms_by (columns_room w l) (stepped_by 0 (statement o (drop at s)))) w l r w' l'
         → FillsTerms answer w l r w' l'
     fill-line r w' l' f = rw same-terms at f

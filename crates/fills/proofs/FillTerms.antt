@@ -1,5 +1,6 @@
 -- What filling one statement's terms answers and leaves, case by case: the end, the statement's own refusal, 10, and
 -- the terms.
+use Rattle.std.specs.Prelude.{Ok, Err}
 use Prim.Native.Nat.{ℕ, ◌≤◌, ◌<◌, ◌^◌}
 use mathlib.Core.Path.{◌≡◌, refl, sym, ap, subst, ◌∙◌}
 use mathlib.Core.List.{List, [], map}
@@ -18,14 +19,13 @@ use Rattle.definitions.specs.Stepping.{stepped_by, terms_fitted, terms_by, colum
 use Rattle.statements.specs.Brief.{brief_step}
 use Rattle.sums.specs.Walked.{TermsFilled, TermsPut}
 use Rattle.fills.specs.FillsTerms.{FillsTerms}
-use Rattle.definitions.specs.declared.Length.TheVariants.{Refused, Is}
 use Rattle.laws.proofs.Puts.{needed-word}
 use Rattle.statements.proofs.Briefs.{brief-stop, brief-bad, LineIs, terms-in-file}
 
 -- ---- what is answered and left, whatever the terms are of
 module _ (x : Outcome (List Term)) (w : List ℤ) (l : List ℕ) where
   -- nothing is filled
-  pub refusing : (r : Refusal) → x ≡ refused r → FillsTerms x w l (Refused r) w l
+  pub refusing : (r : Refusal) → x ≡ refused r → FillsTerms x w l (Err r) w l
   refusing r e =
       record {
         answer = ap terms_counted (sym e);
@@ -37,14 +37,14 @@ module _ (x : Outcome (List Term)) (w : List ℤ) (l : List ℕ) where
       }
 
   filling : (ts : List Term) (n : ℕ) (w' : List ℤ) (l' : List ℕ) → x ≡ accepted ts → n ≡ length ts → TermsFilled ts w l w' l'
-      → FillsTerms x w l (Is n) w' l'
+      → FillsTerms x w l (Ok n) w' l'
   filling ts n w' l' e c f =
       record {
         answer = ap accepted c ∙ ap terms_counted (sym e);
         filled = subst (λ (y : Outcome (List Term)). TermsFilled (terms_kept y) w l w' l') (sym e) f;
       }
 
-  pub no-terms : x ≡ accepted [] → FillsTerms x w l (Is 0) w l
+  pub no-terms : x ≡ accepted [] → FillsTerms x w l (Ok 0) w l
   no-terms e = filling [] 0 w l e refl (record { weights = refl; literals = refl })
 
 -- ---- the statement at the front of the rest of a file
@@ -55,11 +55,11 @@ module _ (x : Step Line) (w : List ℤ) (l : List ℕ) where
   answers : (y : Step Line) → x ≡ y → answer ≡ terms_by (columns_room w l) (stepped_by 0 y)
   answers y e = ap (λ (z : Step Line). terms_by (columns_room w l) (stepped_by 0 z)) e
 
-  pub fill-refused : (r : Refusal) → bad r ≡ brief_step x → FillsTerms answer w l (Refused r) w l
+  pub fill-refused : (r : Refusal) → bad r ≡ brief_step x → FillsTerms answer w l (Err r) w l
   fill-refused r e =
       refusing answer w l r (answers (bad r) (brief-bad x r e) ∙ ap (λ (p : ℕ). refused (refusal r.number p)) (omega arith))
 
-  pub fill_end : stop ≡ brief_step x → FillsTerms answer w l (Is 0) w l
+  pub fill_end : stop ≡ brief_step x → FillsTerms answer w l (Ok 0) w l
   fill_end e = no-terms answer w l (answers stop (brief-stop x e))
 
   -- a line of n bytes
@@ -67,7 +67,7 @@ module _ (x : Step Line) (w : List ℤ) (l : List ℕ) where
     line-answers : answer ≡ terms_fitted (columns_room w l) (terms_of i.line)
     line-answers = answers (item i.line n) i.is ∙ ap (terms_fitted (columns_room w l)) (terms-in-file 0 i.line)
 
-    pub fill-beyond : columns_room w l < terms → terms < 2 ^ 64 → FillsTerms answer w l (Refused (refusal 10 terms)) w l
+    pub fill-beyond : columns_room w l < terms → terms < 2 ^ 64 → FillsTerms answer w l (Err (refusal 10 terms)) w l
     unfolding terms_fitted
     fill-beyond h small =
         let c = i.counted in
@@ -78,7 +78,7 @@ module _ (x : Step Line) (w : List ℤ) (l : List ℕ) where
 
     -- it fits: what was met was put, and is the line's terms
     pub fill-whole : terms ≤ columns_room w l → (met : List Term) (w' : List ℤ) (l' : List ℕ) → met ≡ terms_of i.line
-        → TermsPut met w l w' l' → FillsTerms answer w l (Is terms) w' l'
+        → TermsPut met w l w' l' → FillsTerms answer w l (Ok terms) w' l'
     unfolding terms_fitted
     fill-whole h met w' l' e f =
         let c = i.counted in

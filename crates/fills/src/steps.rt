@@ -2,7 +2,7 @@
 ghost use Rattle.definitions.specs.Stepping.{terms_at_step};
 ghost use Rattle.fills.specs.FillsTerms.{FillsTerms};
 
-use definitions::{Length, Options};
+use definitions::{Options, Refusal};
 use walker::Stepped;
 
 // The terms of the statement at an offset; 10 where they do not fit.
@@ -12,12 +12,12 @@ pub fn fill_at(
     at: usize,
     weights: &mut [i64],
     literals: &mut [u32],
-) -> Length
+) -> Result<usize, Refusal>
     ensures { FillsTerms (terms_at_step options file.now at weights.old literals.old) weights.old literals.old result weights.new literals.new }
 {
     match walker::step_at(file, options, at) {
-        Stepped::End => Length::Is(0),
-        Stepped::Refused(refusal) => Length::Refused(refusal),
+        Stepped::End => Ok(0),
+        Stepped::Refused(refusal) => Err(refusal),
         Stepped::Line { entry: _, next: _ } => crate::terms::fill_terms(
             &file[at..],
             options,

@@ -10,27 +10,33 @@ ghost use Rattle.definitions.specs.Answers.{said_length};
 ghost use Rattle.definitions.specs.Values.{front, items_from, hear, new_length};
 ghost use Rattle.tokens.specs.Said.{form_by};
 
-use definitions::{Length, Refusal};
+use definitions::Refusal;
 
 // "per line 20, then by token 21, 5, 22, each placed at its first byte"; or the length, one past the highest variable
 // met.
-pub fn hear(block: &[u8], named: bool, kept: u64, values: &[u64], known: &[u64]) -> Length
+pub fn hear(
+    block: &[u8],
+    named: bool,
+    kept: u64,
+    values: &[u64],
+    known: &[u64],
+) -> Result<usize, Refusal>
     ensures { said_length result ≡ new_length kept (hear (form_by named) kept values.now known.now [] (items_from front 0 block.now)) }
 {
     let found = survey::survey(block, named, kept);
     let end = found.place;
     let conflict = conflicts::first_conflict(block, named, end, values, known);
     if conflict < end {
-        return Length::Refused(Refusal {
+        return Err(Refusal {
             number: 22,
             place: conflict as u64,
         });
     }
     if found.number != 0 {
-        return Length::Refused(Refusal {
+        return Err(Refusal {
             number: found.number,
             place: end as u64,
         });
     }
-    Length::Is(found.length as usize)
+    Ok(found.length as usize)
 }

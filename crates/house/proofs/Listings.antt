@@ -1,5 +1,6 @@
 -- The whole listing: the length that the code counts is the length needed, and the head with the lines behind it is the
 -- text.
+use Rattle.std.specs.Prelude.{Ok, Err}
 use mathlib.Core.Path.{◌≡◌, refl, ap, ◌∙◌}
 use mathlib.Core.List.{List, [], ◌∷◌, ◌++◌}
 use Prim.Native.Nat.{ℕ, zero, suc, ◌+◌, ◌≤◌, ◌<◌}
@@ -17,7 +18,6 @@ use Rattle.definitions.specs.House.{term_fields, house_line, listed_entry, listi
 use Rattle.laws.proofs.Puts.{Puts, rest-room, puts_then, puts-as, needed-add}
 use Rattle.columns.proofs.EntryLaws.{entries-count}
 use Rattle.definitions.specs.declared.Refusal.{Refusal}
-use Rattle.definitions.specs.declared.Length.TheVariants.{Refused, Is}
 use Rattle.definitions.proofs.Truths.{never}
 use Rattle.house_lengths.specs.Words.{head_text}
 use Rattle.house_lengths.proofs.Fields.{term-fields-length}
@@ -136,7 +136,7 @@ module _ (first : ℕ) (ls : List Line) where
 -- ---- what is answered
 
 module _ (first n : ℕ) (t : Table) (o : List ℕ) where
-  pub lists-refused : (q : Refusal) → lines_of first n t ≡ refused q → Lists first n t o (Refused q) o
+  pub lists-refused : (q : Refusal) → lines_of first n t ≡ refused q → Lists first n t o (Err q) o
   unfolding listing_table output_after
   lists-refused q e = record { answer = rw e; after = rw e }
 
@@ -145,7 +145,7 @@ module _ (first n : ℕ) (t : Table) (o : List ℕ) where
     unfolding listing_table
     outcome = rw (e, is-listing first ls)
 
-    pub lists-full : (w : ℕ) → w ≡ needed (length (text first ls)) → length o < w → Lists first n t o (Refused (refusal 14 w)) o
+    pub lists-full : (w : ℕ) → w ≡ needed (length (text first ls)) → length o < w → Lists first n t o (Err (refusal 14 w)) o
     unfolding output_after
     lists-full w q h =
         let f : length o < length (text first ls) = unfold needed in omega (arith, q) in
@@ -153,7 +153,7 @@ module _ (first n : ℕ) (t : Table) (o : List ℕ) where
         record { answer = rw (outcome, l, q); after = rw (outcome, l) }
 
     pub lists-all : (end : ℕ) (o' : List ℕ) → length (text first ls) ≤ length o → Puts (text first ls) 0 o end o'
-        → Lists first n t o (Is end) o'
+        → Lists first n t o (Ok end) o'
     unfolding output_after
     lists-all end o' h p =
         let l = le-leb (length (text first ls)) (length o) h in
@@ -184,7 +184,7 @@ module _ (first n : ℕ) (t : Table) (o : List ℕ) (r m k : ℕ)
           → k ≡ needed (length (joined (house_line first) ls)) → needed (k + length (head_text r m first)) ≡ needed (length (text first ls))
       go ls a b d = rw (a, b, d) (whole-needed first ls)
 
-  pub listing_full : length o < w → Lists first n t o (Refused (refusal 14 w)) o
+  pub listing_full : length o < w → Lists first n t o (Err (refusal 14 w)) o
   listing_full h = lists-full first n t o c.lines c.are w is-needed h
 
   module _ (h : w ≤ length o) (g : length o < needed_limit) where
@@ -222,7 +222,7 @@ module _ (first n : ℕ) (t : Table) (o : List ℕ) (r m k : ℕ)
 
       pub listing-all : {end : ℕ} {o₂ : List ℕ}
           → ((ls : List Line) → lines_of first r t ≡ accepted ls → Puts (joined (house_line first) ls) at o₁ end o₂) → Lists first
-          n t o (Is end) o₂
+          n t o (Ok end) o₂
       listing-all {end} {o₂} f =
           let q = puts_then p (omega (arith, head-room)) (f c.lines lines_are) in
           lists-all first n t o c.lines c.are end o₂ fits (puts-as q (ap (λ (x : List ℕ). x ++ body) head-is))

@@ -9,7 +9,7 @@ mod terms;
 ghost use Rattle.definitions.specs.Table.{table};
 ghost use Rattle.house.specs.ListsTable.{Lists};
 
-use definitions::{Length, Refusal};
+use definitions::Refusal;
 use house_measures::Measured;
 
 // The lines of the first `rows` rows. Row by row 11, then 5; then 14 with the length needed.
@@ -23,23 +23,23 @@ pub fn list_table(
     rows: usize,
     first: u32,
     out: &mut [u8],
-) -> Length
+) -> Result<usize, Refusal>
     ensures { Lists first rows (table kinds.now firsts.now counts.now bounds.now weights.now literals.now) out.old result out.new }
 {
     match house_measures::measure_rows(
         kinds, firsts, counts, bounds, weights, literals, rows, first,
     ) {
-        Measured::Refused(refusal) => Length::Refused(refusal),
+        Measured::Refused(refusal) => Err(refusal),
         Measured::Lines(n, size) => {
             let length = house_lengths::text_length(n, size.terms, size.length, first);
             if length > out.len() as u64 {
-                return Length::Refused(Refusal {
+                return Err(Refusal {
                     number: 14,
                     place: length,
                 });
             }
             let at = lines::put_head(n, size.terms, first, out);
-            Length::Is(lines::put_rows(
+            Ok(lines::put_rows(
                 kinds, firsts, counts, bounds, weights, literals, n, first, out, at,
             ))
         }

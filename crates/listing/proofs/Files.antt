@@ -1,4 +1,5 @@
 -- The lines are listed where they fit, and nothing is changed where they do not.
+use Rattle.std.specs.Prelude.{Ok, Err}
 use mathlib.Core.Path.{◌≡◌, ap}
 use mathlib.Core.List.{List}
 use Prim.Native.Nat.{ℕ, ◌≤◌, ◌<◌}
@@ -11,7 +12,6 @@ use Rattle.definitions.specs.Table.{Table, accepted}
 use Rattle.definitions.specs.File.{first_at, reading}
 use Rattle.definitions.specs.Write.{output_after}
 use Rattle.definitions.specs.House.{listing}
-use Rattle.definitions.specs.declared.Length.TheVariants as listed
 use Rattle.listing_read.specs.ListsRead.{file_listing, ListsRead}
 use Rattle.listing.specs.ListsFile.{ListsFile}
 
@@ -21,7 +21,7 @@ module _ (first : ℕ) (s : List ℕ) (t : Table) where
 
   -- ---- the length was measured first: w is needed
   module _ (o : List ℕ) (w : ℕ) (e : w ≡ needed (length text)) where
-    pub lists-full : length o < w → ListsFile first s t o (listed.Refused (refusal 14 w)) t o
+    pub lists-full : length o < w → ListsFile first s t o (Err (refusal 14 w)) t o
     unfolding file_listing output_after
     lists-full h =
         let f : length o < length text = unfold needed in omega (arith, e) in
@@ -33,7 +33,7 @@ module _ (first : ℕ) (s : List ℕ) (t : Table) where
     whole h g = omega (arith, e)
 
     pub lists-all : w ≤ length o → length o < needed_limit → (t' : Table) (o' : List ℕ) → ListsRead first s t o t' o'
-        → ListsFile first s t o (listed.Is w) t' o'
+        → ListsFile first s t o (Ok w) t' o'
     unfolding file_listing
     lists-all h g t' o' r =
         let n = whole h g in

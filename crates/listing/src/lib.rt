@@ -7,7 +7,7 @@
 ghost use Rattle.definitions.specs.Table.{table};
 ghost use Rattle.listing.specs.ListsFile.{ListsFile};
 
-use definitions::{Length, Options, Refusal};
+use definitions::{Options, Refusal};
 
 // 14 with the length needed, or the length of the lines.
 pub fn list_file(
@@ -20,7 +20,7 @@ pub fn list_file(
     weights: &mut [i64],
     literals: &mut [u32],
     out: &mut [u8],
-) -> Length
+) -> Result<usize, Refusal>
     ensures { ListsFile first file.now (table kinds.old firsts.old counts.old bounds.old weights.old literals.old) out.old result
         (table kinds.new firsts.new counts.new bounds.new weights.new literals.new) out.new }
 {
@@ -28,7 +28,7 @@ pub fn list_file(
     let term_room = columns::term_room(weights, literals);
     let length = listing_lengths::listing_length(file, Options { first }, row_room, term_room);
     if length > out.len() as u64 {
-        return Length::Refused(Refusal {
+        return Err(Refusal {
             number: 14,
             place: length,
         });
@@ -36,5 +36,5 @@ pub fn list_file(
     listing_read::list_read(
         file, first, kinds, firsts, counts, bounds, weights, literals, out,
     );
-    Length::Is(length as usize)
+    Ok(length as usize)
 }

@@ -16,7 +16,6 @@ use Rattle.definitions.specs.Table.{Table, Outcome, refused, accepted, entries, 
 use Rattle.definitions.specs.Answers.{said_counted}
 use Rattle.definitions.specs.declared.Refusal.{Refusal}
 use Rattle.definitions.specs.declared.Totals.{Totals}
-use Rattle.definitions.specs.declared.Length.{Length}
 use Rattle.definitions.specs.File.{first_at, file, reading}
 use Rattle.definitions.specs.Write.{fitted_text, output_after}
 use Rattle.definitions.specs.House.{refused_line, listing, listed_entry, listing_table}
@@ -105,5 +104,5 @@ module _ (first : ℕ) (s : List ℕ) (t : Table) where
           ∙ ap (λ (k : ℕ). listing_table first k (filled counts.lines t) (length o)) counts.count
           ∙ rw (table-back counts.lines counts.are, ← counts.are)
 
-      pub read-lists : (r : Length) → Lists first n.rows t' o r o' → ListsRead first s t o t' o'
+      pub read-lists : (r : Result ℕ Refusal) → Lists first n.rows t' o r o' → ListsRead first s t o t' o'
       read-lists r l = record { output = l.after ∙ ap (λ (x : Outcome (List ℕ)). output_after x o) outcome; tables = reads.after }

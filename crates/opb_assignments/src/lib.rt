@@ -10,7 +10,7 @@ ghost use Rattle.definitions.specs.Table.{refused, accepted};
 ghost use Rattle.opb_assignments.specs.ByValue.{length_answer};
 ghost use Rattle.opb_assignments.specs.Calls.{ReadsBlock};
 
-use definitions::Length;
+use definitions::Refusal;
 
 // The length of the assignment, which the caller keeps. `refusal` is 0 exactly where the call accepted, else the
 // refusal's number; then `place` is its place and the length is 0.
@@ -54,7 +54,7 @@ pub extern "C" fn opb_values(
     ensures { ReadsBlock block.now length values.old known.old result values.new known.new }
 {
     match values::read_values(block, length, values, known) {
-        Length::Refused(found) => refused_length(found.number, found.place),
-        Length::Is(after) => length_of(after as u64),
+        Err(found) => refused_length(found.number, found.place),
+        Ok(after) => length_of(after as u64),
     }
 }

@@ -10,7 +10,7 @@ ghost use Rattle.definitions.specs.Table.{table};
 ghost use Rattle.opb_texts.specs.ByValue.{length_answer};
 ghost use Rattle.opb_texts.specs.Calls.{WritesLines, ListsTable};
 
-use definitions::{Length, Mode};
+use definitions::{Mode, Refusal};
 
 // How many bytes of the output the text takes. `refusal` is 0 exactly where the call accepted, else the refusal's
 // number; then `place` is its place and the length is 0.
@@ -23,16 +23,16 @@ pub struct OpbText {
 }
 
 // What a callee answers, as C has it.
-fn text_answer(found: Length) -> OpbText
+fn text_answer(found: Result<usize, Refusal>) -> OpbText
     ensures { result ≡ length_answer (said_length found) }
 {
     match found {
-        Length::Refused(why) => OpbText {
+        Err(why) => OpbText {
             refusal: why.number,
             place: why.place,
             length: 0,
         },
-        Length::Is(length) => OpbText {
+        Ok(length) => OpbText {
             refusal: 0,
             place: 0,
             length: length as u64,

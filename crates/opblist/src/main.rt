@@ -3,7 +3,6 @@
 // printed. What cannot be read or printed is said on standard error.
 #![tactic(auto)]
 
-use definitions::Length;
 use outputs::Put;
 use std::io;
 use std::io::Write;
@@ -28,8 +27,8 @@ fn list(file: &[u8], out: &mut [u8]) -> Put {
         &mut literals,
         out,
     ) {
-        Length::Is(length) => Put::Done(length),
-        Length::Refused(_) => Put::Full,
+        Ok(length) => Put::Done(length),
+        Err(_) => Put::Full,
     }
 }
 

@@ -4,7 +4,7 @@
 // on standard error.
 #![tactic(auto)]
 
-use definitions::{Entry, Length, Options, Refusal, Totals};
+use definitions::{Entry, Options, Refusal, Totals};
 use outputs::Put;
 use std::io;
 use std::io::Write;
@@ -101,14 +101,14 @@ fn print_row<O: Write, E: Write>(
     match house::list_table(
         &kinds, &firsts, &counts, &bounds, weights, literals, 1, 1, out,
     ) {
-        Length::Refused(_) => {
+        Err(_) => {
             streams::say(
                 errors,
                 b"opbwalk: the line does not fit the output buffer\n",
             )?;
             Ok(false)
         }
-        Length::Is(n) => {
+        Ok(n) => {
             let start = head_length(columns::terms_of(entry.kind, entry.count));
             print_part(output, errors, out, start, n)
         }
@@ -144,11 +144,11 @@ fn print_statement<O: Write, E: Write>(
 ) -> io::Result<bool> {
     let options = Options { first: 1 };
     match fills::fill_at(file, options, at, weights, literals) {
-        Length::Refused(_) => {
+        Err(_) => {
             streams::say(errors, b"opbwalk: the terms do not fit their columns\n")?;
             Ok(false)
         }
-        Length::Is(_) => print_row(output, errors, entry, weights, literals, out),
+        Ok(_) => print_row(output, errors, entry, weights, literals, out),
     }
 }
 

@@ -19,7 +19,6 @@ use Rattle.definitions.specs.Back.{options_of}
 use Rattle.definitions.specs.declared.Mode.{Mode}
 use Rattle.definitions.proofs.ThereAndBack.{there_and_back}
 use Rattle.reader.specs.Reads.{Reads}
-use Rattle.definitions.specs.declared.Length.{Length}
 use Rattle.definitions.proofs.Truths.{never}
 use Rattle.writer.specs.Writes.{Writes}
 use Rattle.foreseen.specs.Returning.{unwritten, unread, back, read_back, returning}
@@ -95,7 +94,7 @@ module _ (m : Mode) (t : Table) (text o : List ℕ) (new : Table) where
       by (refused r) p f = never (cc)
       by (accepted s) p f = read s p (reading (options_of m) s new) refl f
 
-  module _ (l n k : ℕ) (e : back l (totals_of n k) ≡ returning m new text_of) (w : Length) (o' : List ℕ)
+  module _ (l n k : ℕ) (e : back l (totals_of n k) ≡ returning m new text_of) (w : Result ℕ Refusal) (o' : List ℕ)
       (wrote : Writes m t text o w o') where
     good : Good l
     good = good-back l (totals_of n k) e

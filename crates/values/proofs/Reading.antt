@@ -1,5 +1,6 @@
 -- What a block that was heard makes of a call: refused as it was heard; 12, where the shorter row has too few words; or
 -- both rows with their bits. And what is heard of signed numbers and `x` tokens, by the answer of `heard::hear`.
+use Rattle.std.specs.Prelude.{Result}
 use Prim.Native.Nat.{ℕ, ◌<◌, min}
 use mathlib.Core.Path.{◌≡◌, refl, sym, ap, ◌∙◌}
 use mathlib.Core.Bool.{Bool, true, false, cond, not}
@@ -18,7 +19,6 @@ use Rattle.settling.specs.Flat.{code_in, said_by}
 use Rattle.heard.proofs.Hearing.{said-heard}
 use Rattle.values.specs.Reads.{ReadsValues}
 use Rattle.definitions.specs.Answers.{said_length}
-use Rattle.definitions.specs.declared.Length.{Length}
 
 -- ---- from what was heard to the call
 
@@ -44,7 +44,7 @@ unfolding marked
 marked-nothing ks = refl
 
 -- an empty block
-pub read-empty : (s : List ℕ) (n : ℕ) (ws ks : List ℕ) (r : Length) → length s ≡ 0 → said_length r ≡ refused (refusal 20 0)
+pub read-empty : (s : List ℕ) (n : ℕ) (ws ks : List ℕ) (r : Result ℕ Refusal) → length s ≡ 0 → said_length r ≡ refused (refusal 20 0)
     → ReadsValues s n ws ks r ws ks
 unfolding valuing held hear values_after known_after
 read-empty [] n ws ks r e q = record { answer = q; values = refl; known = refl }
@@ -65,7 +65,7 @@ module _ (s : List ℕ) (n : ℕ) (ws ks : List ℕ) where
         by (b ∷ s) h = refl
 
     -- refused as it was heard
-    pub read-refused : (number place : ℕ) (r : Length) → Heard ≡ refused (refusal number place)
+    pub read-refused : (number place : ℕ) (r : Result ℕ Refusal) → Heard ≡ refused (refusal number place)
         → said_length r ≡ refused (refusal number place)
         → ReadsValues s n ws ks r ws ks
     unfolding held values_after known_after
@@ -79,7 +79,7 @@ module _ (s : List ℕ) (n : ℕ) (ws ks : List ℕ) where
 
     module _ (cs : List ℕ) (h : Heard ≡ accepted cs) (m needed : ℕ) (long : m ≡ length_after n cs) (words : needed ≡ words_for m) where
       -- too few words
-      pub read_short : (r : Length) → leb needed (min (length ws) (length ks)) ≡ false → said_length r ≡ refused (refusal 12 needed)
+      pub read_short : (r : Result ℕ Refusal) → leb needed (min (length ws) (length ks)) ≡ false → said_length r ≡ refused (refusal 12 needed)
           → ReadsValues s n ws ks r ws ks
       unfolding held values_after known_after
       read_short r f q =
@@ -98,7 +98,7 @@ module _ (s : List ℕ) (n : ℕ) (ws ks : List ℕ) where
           short l e f = rw (sym e, f)
 
       -- both rows with their bits
-      pub read-fine : (r : Length) (ws' ks' : List ℕ) → leb needed (min (length ws) (length ks)) ≡ true → said_length r ≡ accepted m
+      pub read-fine : (r : Result ℕ Refusal) (ws' ks' : List ℕ) → leb needed (min (length ws) (length ks)) ≡ true → said_length r ≡ accepted m
           → ws' ≡ valued cs ws → ks' ≡ marked cs ks
           → ReadsValues s n ws ks r ws' ks'
       unfolding held values_after known_after

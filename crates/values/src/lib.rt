@@ -13,13 +13,13 @@ ghost use Rattle.definitions.specs.declared.Form.TheVariants.{ZerosAndOnes};
 ghost use Rattle.tokens.specs.Said.{form_by};
 ghost use Rattle.values.specs.Reads.{ReadsValues};
 
-use definitions::{Form, Length, Refusal};
+use definitions::{Form, Refusal};
 use string::Checked;
 
-fn refused(number: u8, place: u64) -> Length
+fn refused(number: u8, place: u64) -> Result<usize, Refusal>
     ensures { said_length result ≡ refused (refusal number place) }
 {
-    Length::Refused(Refusal { number, place })
+    Err(Refusal { number, place })
 }
 
 // The words that a length needs.
@@ -47,26 +47,31 @@ fn read_literals(
     kept: u64,
     values: &mut [u64],
     known: &mut [u64],
-) -> Length
+) -> Result<usize, Refusal>
     requires some { 0 < length block.now }
     requires form { form_of block.now ≡ form_by named }
     ensures { ReadsValues block.now kept values.old known.old result values.new known.new }
 {
     match heard::hear(block, named, kept, values, known) {
-        Length::Refused(found) => refused(found.number, found.place),
-        Length::Is(after) => {
+        Err(found) => refused(found.number, found.place),
+        Ok(after) => {
             let needed = words_for(after as u64);
             if !has_words(needed, values, known) {
                 return refused(12, needed);
             }
             settling::settle(block, named, values, known);
-            Length::Is(after)
+            Ok(after)
         }
     }
 }
 
 // One string: 20, 5, 22 and 20 again, as `string::check` finds them; then 12; then the bits.
-fn read_string(block: &[u8], kept: u64, values: &mut [u64], known: &mut [u64]) -> Length
+fn read_string(
+    block: &[u8],
+    kept: u64,
+    values: &mut [u64],
+    known: &mut [u64],
+) -> Result<usize, Refusal>
     requires some { 0 < length block.now }
     requires form { form_of block.now ≡ ZerosAndOnes }
     ensures { ReadsValues block.now kept values.old known.old result values.new known.new }
@@ -78,7 +83,7 @@ fn read_string(block: &[u8], kept: u64, values: &mut [u64], known: &mut [u64]) -
             if !has_words(needed, values, known) {
                 return refused(12, needed);
             }
-            Length::Is(kept as usize)
+            Ok(kept as usize)
         }
         Checked::String { place, end } => {
             let after = kept + (end - place) as u64;
@@ -87,14 +92,19 @@ fn read_string(block: &[u8], kept: u64, values: &mut [u64], known: &mut [u64]) -
                 return refused(12, needed);
             }
             string::append(&block[place..end], kept, values, known);
-            Length::Is(after as usize)
+            Ok(after as usize)
         }
     }
 }
 
 // A block on top of what is known: the new length, or a refusal. "per line 20, then by token 21, 5, 22, each placed at
 // its first byte; then 12 with the words needed."
-pub fn read_values(block: &[u8], length: u64, values: &mut [u64], known: &mut [u64]) -> Length
+pub fn read_values(
+    block: &[u8],
+    length: u64,
+    values: &mut [u64],
+    known: &mut [u64],
+) -> Result<usize, Refusal>
     ensures { ReadsValues block.now length values.old known.old result values.new known.new }
 {
     if block.len() == 0 {

@@ -2,16 +2,16 @@
 // nothing.
 #![tactic(auto)]
 
-use definitions::Length;
+use definitions::Refusal;
 use std::io;
 use std::io::Write;
 use vectors_columns::{ROOM, WORDS};
 use vectors_shown::{say, say_refusal, say_size, say_words};
 
-fn show<W: Write>(output: &mut W, r: Length) -> io::Result<()> {
+fn show<W: Write>(output: &mut W, r: Result<usize, Refusal>) -> io::Result<()> {
     match r {
-        Length::Refused(why) => say_refusal(output, why.number, why.place),
-        Length::Is(after) => {
+        Err(why) => say_refusal(output, why.number, why.place),
+        Ok(after) => {
             say(output, b" length")?;
             say_size(output, after)
         }

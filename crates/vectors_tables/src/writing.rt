@@ -1,14 +1,14 @@
 // A table, written. Assumes nothing.
-use definitions::{Length, Mode};
+use definitions::{Mode, Refusal};
 use std::io;
 use std::io::Write;
 use vectors_columns::ROOM;
 use vectors_shown::{say, say_bytes, say_refusal, say_size};
 
-fn show_written<W: Write>(output: &mut W, answer: Length) -> io::Result<()> {
+fn show_written<W: Write>(output: &mut W, answer: Result<usize, Refusal>) -> io::Result<()> {
     match answer {
-        Length::Refused(why) => say_refusal(output, why.number, why.place),
-        Length::Is(n) => {
+        Err(why) => say_refusal(output, why.number, why.place),
+        Ok(n) => {
             say(output, b" wrote")?;
             say_size(output, n)
         }

@@ -8,7 +8,7 @@ ghost use Rattle.fills.specs.FillsTerms.{FillsTerms};
 ghost use Rattle.walker.specs.Said.{said_stepped, brief_stepped};
 ghost use Rattle.walker_run.specs.Stands.{stands_after};
 
-use definitions::{Entry, Length, Options, Refusal};
+use definitions::{Entry, Options, Refusal};
 use std::io;
 use std::io::Write;
 use walker::Stepped;
@@ -47,7 +47,7 @@ fn terms_at(
     at: usize,
     weights: &mut [i64],
     literals: &mut [u32],
-) -> Length
+) -> Result<usize, Refusal>
     ensures { FillsTerms (terms_at_step options file.now at weights.old literals.old) weights.old literals.old result weights.new literals.new }
 {
     let w = held::moved(held::new(file, options), at);
@@ -75,10 +75,10 @@ fn show_step<W: Write>(output: &mut W, s: Stepped) -> io::Result<()> {
     write!(output, "\n")
 }
 
-fn show_terms<W: Write>(output: &mut W, filled: Length) -> io::Result<()> {
+fn show_terms<W: Write>(output: &mut W, filled: Result<usize, Refusal>) -> io::Result<()> {
     match filled {
-        Length::Refused(refusal) => show_refusal(output, refusal),
-        Length::Is(n) => write!(output, "terms {n}"),
+        Err(refusal) => show_refusal(output, refusal),
+        Ok(n) => write!(output, "terms {n}"),
     }
 }
 

@@ -1,4 +1,5 @@
 -- The whole call: what the first walk says decides the answer and what becomes of the output.
+use Rattle.std.specs.Prelude.{Ok, Err}
 use mathlib.Core.Path.{◌≡◌, refl, ap, ◌∙◌}
 use mathlib.Core.List.{List}
 use Prim.Native.Nat.{ℕ, ◌≤◌, ◌<◌}
@@ -12,7 +13,6 @@ use Rattle.definitions.specs.Table.{Table, Outcome, refused, accepted}
 use Rattle.definitions.specs.Write.{Item, text_of, writing, output_after}
 use Rattle.definitions.specs.declared.Mode.{Mode}
 use Rattle.definitions.specs.declared.Refusal.{Refusal}
-use Rattle.definitions.specs.declared.Length.TheVariants.{Refused, Is}
 use Rattle.measures.specs.RowsMeasured.{items_for, lines_of, extents_of, extent_by, extent_for}
 use Rattle.writer.specs.SecondWalk.{lines_by, lines_for, LinesReady}
 use Rattle.measures.specs.declared.rows.Extent.{Extent}
@@ -24,11 +24,11 @@ module _ (m : Mode) (t : Table) (text o : List ℕ) where
   unfolding writing
   written_as os e = ap (text_of m (length o)) e
 
-  pub writes-refused : (x : Refusal) → refused x ≡ extent_for m t text → Writes m t text o (Refused x) o
+  pub writes-refused : (x : Refusal) → refused x ≡ extent_for m t text → Writes m t text o (Err x) o
   unfolding output_after
   writes-refused x e = by (items_for m t text) refl e
     where
-      by : (os : Outcome (List Item)) → items_for m t text ≡ os → refused x ≡ extent_by m os → Writes m t text o (Refused x) o
+      by : (os : Outcome (List Item)) → items_for m t text ≡ os → refused x ≡ extent_by m os → Writes m t text o (Err x) o
       by (refused r) q e =
           let w = written_as (refused r) q in
           let k : x ≡ r = cc in
@@ -57,7 +57,7 @@ module _ (m : Mode) (t : Table) (text o : List ℕ) where
     abbrev lines : List ℕ
     lines = lines_of m all-accepted.items
 
-    pub writes-full : length o < n → Writes m t text o (Refused (refusal 14 n)) o
+    pub writes-full : length o < n → Writes m t text o (Err (refusal 14 n)) o
     unfolding output_after needed
     writes-full h =
         let long : length o < length lines = omega (arith, all-accepted.count) in
@@ -73,7 +73,7 @@ module _ (m : Mode) (t : Table) (text o : List ℕ) where
       pub writes-ready : LinesReady m t text o
       writes-ready = record { items = all-accepted.items; are = all-accepted.are; room = omega (arith, length-is) }
 
-      pub writes-done : (o' : List ℕ) → o' ≡ over (lines_for m t text) o → Writes m t text o (Is n) o'
+      pub writes-done : (o' : List ℕ) → o' ≡ over (lines_for m t text) o → Writes m t text o (Ok n) o'
       unfolding output_after
       writes-done o' q =
           let w : writing m t text (length o) ≡ accepted lines =

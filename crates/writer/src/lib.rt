@@ -11,7 +11,7 @@ ghost use Rattle.definitions.specs.Table.{table};
 ghost use Rattle.writer.specs.SecondWalk.{lines_for, LinesReady};
 ghost use Rattle.writer.specs.Writes.{Writes};
 
-use definitions::{Length, Mode, Refusal};
+use definitions::{Mode, Refusal};
 use entries::write_entry;
 use measures::{Measure, measure_opb_lines};
 
@@ -50,15 +50,15 @@ pub fn write_opb_lines(
     text: &[u8],
     mode: Mode,
     out: &mut [u8],
-) -> Length
+) -> Result<usize, Refusal>
     ensures { Writes mode (table kinds.now firsts.now counts.now bounds.now weights.now literals.now) text.now out.old result out.new }
 {
     match measure_opb_lines(kinds, firsts, counts, bounds, weights, literals, text, mode) {
-        Measure::Refused(r) => Length::Refused(r),
+        Measure::Refused(r) => Err(r),
         Measure::Lines(all) => {
             let length = all.length;
             if length > out.len() as u64 {
-                return Length::Refused(Refusal {
+                return Err(Refusal {
                     number: 14,
                     place: length,
                 });
@@ -66,7 +66,7 @@ pub fn write_opb_lines(
             write_lines(
                 kinds, firsts, counts, bounds, weights, literals, text, mode, out,
             );
-            Length::Is(length as usize)
+            Ok(length as usize)
         }
     }
 }
