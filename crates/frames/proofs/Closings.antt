@@ -10,6 +10,8 @@ use borrow.Author.Tests.{ne_eqb}
 use lib.IntN.{ℤ}
 use lib.ListN.{length, get_or, drop}
 use lib.Seq.{drop-drop}
+use Rattle.std.specs.Prelude.{Option, Some, None, Err}
+use Rattle.std.specs.Option.{ok_or}
 use Rattle.definitions.specs.Refusal.{fault}
 use Rattle.definitions.specs.Bytes.{blanks, line_ending, semicolon}
 use Rattle.definitions.specs.Reader.{none, got, Reader, more, chain, done}
@@ -50,6 +52,11 @@ closing-none (b ∷ s) h e f = rw (ne_eqb b semicolon e, f, closing)
 pub ending-is : (s : List ℕ) (k : ℕ) → k ≡ blanks s → ending s ≡ more k (closing (drop k s))
 unfolding ending gap
 ending-is s k e = chain-got gap (λ _. closing) s k k (rw (← e))
+
+-- ---- what an answer that is not there is refused for
+pub refused : {A E : Type 0} (o : Option A) (e f : E) → Err f ≡ ok_or o e → f ≡ e
+refused (Some x) e f h = cc
+refused None e f h = cc
 
 -- ---- comparison: an operator p of n bytes, j blanks, a number z of m bytes, an ending of k bytes
 

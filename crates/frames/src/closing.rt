@@ -4,78 +4,58 @@ ghost use Rattle.definitions.specs.Text.{closing, ending, comparison};
 ghost use Rattle.frames.specs.Said.{said_ending, said_comparison};
 
 use definitions::{Fault, OpbOperator};
-use operators::OperatorRead;
 
-// Whether a `;` stands in an ending, and the bytes that it takes; or none (7).
-#[derive(Clone, Copy)]
-pub enum EndingRead {
-    Ending(bool, usize),
-    Missing,
-}
-
-// An operator, the number behind it, whether a `;` closes them, and the bytes of all with the ending; or what is
-// refused.
-#[derive(Clone, Copy)]
-pub enum ComparisonRead {
-    Comparison {
-        operator: OpbOperator,
-        number: i64,
-        semicolon: bool,
-        taken: usize,
-    },
-    Refused(Fault),
+// An operator, the number behind it, whether a `;` closes them, and the bytes of all with the ending.
+#[derive(Clone, Copy, Debug, PartialEq, Eq)]
+pub struct Comparison {
+    pub operator: OpbOperator,
+    pub number: i64,
+    pub semicolon: bool,
+    pub taken: usize,
 }
 
 // "`;` (then blanks and one line ending, if there), or a line ending, or file end"
-fn read_closing(s: &[u8]) -> EndingRead
+fn read_closing(s: &[u8]) -> Option<(bool, usize)>
     ensures { said_ending result ≡ closing s.now }
 {
     if s.len() == 0 {
-        return EndingRead::Ending(false, 0);
+        return Some((false, 0));
     }
     if s[0] == b';' {
         let k = blanks::blanks_of(&s[1..]);
         let a = k + 1;
         let n = blanks::line_ending_of(&s[a..]);
-        return EndingRead::Ending(true, a + n);
+        return Some((true, a + n));
     }
     let n = blanks::line_ending_of(s);
     if n == 0 {
-        return EndingRead::Missing;
+        return None;
     }
-    EndingRead::Ending(false, n)
+    Some((false, n))
 }
 
-// "blanks, then" the closing
-pub fn read_ending(s: &[u8]) -> EndingRead
+// "blanks, then" the closing: whether a `;` stands in it, and the bytes of both; or none (7).
+pub fn read_ending(s: &[u8]) -> Option<(bool, usize)>
     ensures { said_ending result ≡ ending s.now }
 {
     let k = blanks::blanks_of(s);
-    let EndingRead::Ending(semicolon, n) = read_closing(&s[k..]) else {
-        return EndingRead::Missing;
-    };
-    EndingRead::Ending(semicolon, k + n)
+    let (semicolon, n) = read_closing(&s[k..])?;
+    Some((semicolon, k + n))
 }
 
 // "operator, blanks, number, ending"
-pub fn read_comparison(s: &[u8]) -> ComparisonRead
+pub fn read_comparison(s: &[u8]) -> Result<Comparison, Fault>
     ensures { said_comparison result ≡ comparison s.now }
 {
-    let OperatorRead::Operator(operator, n) = operators::read_operator(s) else {
-        return ComparisonRead::Refused(Fault { number: 6 });
-    };
+    let (operator, n) = operators::read_operator(s).ok_or(Fault { number: 6 })?;
     let a = n + blanks::blanks_of(&s[n..]);
-    let Some((number, m)) = numbers::read_number(&s[a..]) else {
-        return ComparisonRead::Refused(Fault { number: 3 });
-    };
+    let (number, m) = numbers::read_number(&s[a..]).ok_or(Fault { number: 3 })?;
     let b = a + m;
-    let EndingRead::Ending(semicolon, k) = read_ending(&s[b..]) else {
-        return ComparisonRead::Refused(Fault { number: 7 });
-    };
-    ComparisonRead::Comparison {
+    let (semicolon, k) = read_ending(&s[b..]).ok_or(Fault { number: 7 })?;
+    Ok(Comparison {
         operator,
         number,
         semicolon,
         taken: b + k,
-    }
+    })
 }

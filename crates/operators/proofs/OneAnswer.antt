@@ -1,29 +1,26 @@
 -- Each public function has one possible answer for each input: two that its contract allows are equal. None changes
 -- what it is lent.
 use mathlib.Core.Path.{◌≡◌, refl, sym, ◌∙◌}
-use Rattle.definitions.proofs.Truths.{never}
+use Rattle.std.specs.Prelude.{ℕ, ℤ, Option, Some, None}
+use Rattle.definitions.specs.declared.OpbOperator.{OpbOperator}
 use Rattle.operators.specs.Said.{said_operator, said_bound}
-use Rattle.operators.specs.declared.operator.OperatorRead.{OperatorRead}
-use Rattle.operators.specs.declared.operator.OperatorRead.TheVariants.{Operator, Missing}
-use Rattle.operators.specs.declared.bound.BoundRead.{BoundRead}
-use Rattle.operators.specs.declared.bound.BoundRead.TheVariants.{Bound, Beyond}
 use Rattle.operators.proofs.operator.read_operator.Reads as read-operator
 use Rattle.operators.proofs.bound.kind_of.Reads as kind-of
 use Rattle.operators.proofs.bound.bound_of.Reads as bound_of
 
 -- ---- an answer is known by what it says
 
-pub said-operator : (r r' : OperatorRead) → said_operator r ≡ said_operator r' → r ≡ r'
-said-operator (Operator p n) (Operator q m) e = cc
-said-operator (Operator p n) Missing e = never (cc)
-said-operator Missing (Operator q m) e = never (cc)
-said-operator Missing Missing e = refl
+pub said-operator : (r r' : Option (OpbOperator × ℕ)) → said_operator r ≡ said_operator r' → r ≡ r'
+said-operator (Some (p, n)) (Some (q, m)) e = cc
+said-operator (Some (p, n)) None e = cc
+said-operator None (Some (q, m)) e = cc
+said-operator None None e = refl
 
-pub said-bound : (r r' : BoundRead) → said_bound r ≡ said_bound r' → r ≡ r'
-said-bound (Bound z) (Bound y) e = cc
-said-bound (Bound z) Beyond e = never (cc)
-said-bound Beyond (Bound y) e = never (cc)
-said-bound Beyond Beyond e = refl
+pub said-bound : (r r' : Option ℤ) → said_bound r ≡ said_bound r' → r ≡ r'
+said-bound (Some z) (Some y) e = cc
+said-bound (Some z) None e = cc
+said-bound None (Some y) e = cc
+said-bound None None e = refl
 
 -- ---- the functions
 

@@ -5,46 +5,25 @@ ghost use Rattle.definitions.specs.Text.{kind_of, bound_of};
 ghost use Rattle.operators.specs.Bounds.{compared};
 ghost use Rattle.operators.specs.Said.{said_bound};
 
-use definitions::{AT_LEAST, AT_MOST, EQUAL, GREATEST, LEAST, OpbOperator};
-
-// A bound, or none in 64 bits (8).
-#[derive(Clone, Copy)]
-pub enum BoundRead {
-    Bound(i64),
-    Beyond,
-}
+use definitions::{AT_LEAST, AT_MOST, EQUAL, OpbOperator};
 
 pub fn kind_of(operator: OpbOperator) -> u8
     ensures { result ≡ kind_number (kind_of operator) }
 {
     match operator {
-        OpbOperator::LE => AT_MOST,
-        OpbOperator::GE => AT_LEAST,
-        OpbOperator::LT => AT_MOST,
-        OpbOperator::GT => AT_LEAST,
+        OpbOperator::GE | OpbOperator::GT => AT_LEAST,
+        OpbOperator::LE | OpbOperator::LT => AT_MOST,
         OpbOperator::EQ => EQUAL,
     }
 }
 
-// "`> b` is at least b+1, `< b` is at most b-1."
-pub fn bound_of(operator: OpbOperator, number: i64) -> BoundRead
+// The bound, or none in 64 bits (8). "`> b` is at least b+1, `< b` is at most b-1."
+pub fn bound_of(operator: OpbOperator, number: i64) -> Option<i64>
     ensures { said_bound result ≡ compared (bound_of operator number) }
 {
     match operator {
-        OpbOperator::LE => BoundRead::Bound(number),
-        OpbOperator::GE => BoundRead::Bound(number),
-        OpbOperator::LT => {
-            if number == LEAST {
-                return BoundRead::Beyond;
-            }
-            BoundRead::Bound(number - 1)
-        }
-        OpbOperator::GT => {
-            if number == GREATEST {
-                return BoundRead::Beyond;
-            }
-            BoundRead::Bound(number + 1)
-        }
-        OpbOperator::EQ => BoundRead::Bound(number),
+        OpbOperator::LE | OpbOperator::GE | OpbOperator::EQ => Some(number),
+        OpbOperator::LT => number.checked_sub(1),
+        OpbOperator::GT => number.checked_add(1),
     }
 }

@@ -1,9 +1,9 @@
 // The relational operators (01, "The text"): one read at the front of a text, and what it makes of a row's kind and
-// bound. Each answers an enum; specs/Said.antt says what each case is in 01's numbers and values. Assumes nothing.
+// bound. specs/Said.antt says what each answer is in 01's numbers and values. Assumes nothing.
 #![tactic(auto)]
 
 mod bound;
 mod operator;
 
-pub use bound::{BoundRead, bound_of, kind_of};
-pub use operator::{OperatorRead, read_operator};
+pub use bound::{bound_of, kind_of};
+pub use operator::read_operator;

@@ -10,10 +10,9 @@ use Rattle.definitions.proofs.Parts.{part-is}
 use Rattle.definitions.proofs.Statements.{within-ending}
 use Rattle.definitions.proofs.Texts.{blanks-within}
 use Rattle.frames.specs.Said.{said_ending}
-use Rattle.frames.specs.declared.closing.EndingRead.{EndingRead}
 use Rattle.frames.proofs.Closings.{ending-is}
 use Rattle.frames.proofs.closing.read_ending.Goals as goal
-use Rattle.frames.proofs.closing.read_ending.Goals.{After-blanks_of-k, After-read_closing, In-Ending}
+use Rattle.frames.proofs.closing.read_ending.Goals.{After-blanks_of-k, After-read_closing, In_ok-semicolon}
 
 -- behind the blanks
 module _ (c : After-blanks_of-k) where
@@ -36,13 +35,13 @@ module _ (c : After-read_closing) where
       ending-is (text here) (gap here) here.blanks_of-k.ensures
       ∙ ap (more (gap here)) (sym (c.read_closing.ensures ∙ ap closing (part-is (text here) (gap here))))
 
-module _ (c : In-Ending) where
+module _ (c : In_ok-semicolon) where
   abbrev closed : After-read_closing
-  closed = (goal.at.In-Ending c).After-read_closing
+  closed = (goal.at.In_ok-semicolon c).After-read_closing
 
   ending-got : ending (text (here closed))
-      ≡ got c.in-Ending.semicolon (gap (here closed) + c.in-Ending.n)
-  ending-got = ending-by closed ∙ ap (λ (r : EndingRead). more (gap (here closed)) (said_ending r)) c.in-Ending.is
+      ≡ got c.in_ok-semicolon.semicolon (gap (here closed) + c.in_ok-semicolon.n)
+  ending-got = ending-by closed ∙ ap (λ r. more (gap (here closed)) (said_ending r)) c.in_ok-semicolon.was
 
 pub slice_bounds-read_closing-count : goal.slice_bounds-read_closing-count
 slice_bounds-read_closing-count c = gap_within c
@@ -50,10 +49,10 @@ slice_bounds-read_closing-count c = gap_within c
 pub slice_bounds-read_closing-start : goal.slice_bounds-read_closing-start
 slice_bounds-read_closing-start c = gap_within c
 
-pub returns-in_default : goal.returns-in_default
-returns-in_default c =
-    let p = (goal.at.returns-in_default c).After-read_closing in
-    sym (ending-by p ∙ ap (λ (r : EndingRead). more (gap (here p)) (said_ending r)) c.in_default.is)
+pub returns-in_err-semicolon : goal.returns-in_err-semicolon
+returns-in_err-semicolon c =
+    let p = (goal.at.returns-in_err-semicolon c).After-read_closing in
+    rw c.from_residual.ensures (sym (ending-by p ∙ ap (λ r. more (gap (here p)) (said_ending r)) c.in_err-semicolon.was))
 
 pub overflow_add-result : goal.overflow_add-result
 overflow_add-result c = omega (arith, within-ending.most (text (here (closed c))) _ _ (ending-got c))
