@@ -1,18 +1,19 @@
 -- Laws of `min:` and of comments, by what the code looks at: a byte at a place, blanks and a line ending counted.
-use Prim.Native.Nat.{ℕ, zero, suc, ◌+◌, ◌-◌, ◌≤◌, ◌<◌}
+use Prim.Native.Nat.{ℕ, suc, ◌+◌, ◌-◌, ◌≤◌, ◌<◌}
 use mathlib.Core.Path.{◌≡◌, refl, sym, ap, ◌∙◌}
-use mathlib.Core.Bool.{Bool, true, false, cond, and-false}
+use mathlib.Core.Bool.{Bool, true, false, cond, ◌&&◌}
 use mathlib.Core.List.{List, [], ◌∷◌}
 use native.Mathlib.Omega.{arith}
 use native.Mathlib.Nat.{sub-zero}
 use native.Mathlib.Numerals.{add-one}
 use borrow.Author.Tests.{eq-eqb, ne_eqb, eqb-true}
 use lib.Dec.{eqb}
-use lib.ListN.{length, get_or, drop, length-drop}
+use lib.ListN.{length, get_or, take, drop, length-drop}
+use lib.Pointwise.{pointwise}
 use lib.IntN.{pos}
 use Rattle.definitions.specs.Refusal.{fault}
 use Rattle.definitions.specs.Lists.{starts_with}
-use Rattle.definitions.specs.Bytes.{is_at, blanks, line_ending, until_ending, space, min_text, letter_m, colon}
+use Rattle.definitions.specs.Bytes.{is_at, blanks, line_ending, until_ending, space, min_text}
 use Rattle.definitions.specs.Reader.{none, got}
 use Rattle.definitions.specs.Row.{comment}
 use Rattle.definitions.specs.Text.{gap, min_word, min_blanks, remark}
@@ -22,48 +23,22 @@ use Rattle.blanks.proofs.At.{at-is}
 
 -- ---- a word at the front
 
-starts-short : (w s : List ℕ) → length s < length w → starts_with w s ≡ false
+stripped : (w s : List ℕ) → pointwise eqb (take (length w) s) w ≡ starts_with w s
 unfolding starts_with
-starts-short [] s h = absurd (omega arith)
-starts-short (p ∷ w) [] h = refl
-starts-short (p ∷ w) (b ∷ s) h = rw (starts-short w s (omega arith)) (and-false (eqb b p))
-
-starts_other : (w s : List ℕ) (i : ℕ) → i < length w → (get_or s i 0 ≡ get_or w i 0 → ⊥) → starts_with w s ≡ false
-unfolding starts_with
-starts_other [] s i h n = absurd (omega arith)
-starts_other (p ∷ w) [] i h n = refl
-starts_other (p ∷ w) (b ∷ s) zero h n = rw (ne_eqb b p n)
-starts_other (p ∷ w) (b ∷ s) (suc i) h n = rw (starts_other w s i (omega arith) n) (and-false (eqb b p))
-
-starts-same : (w s : List ℕ) → length w ≤ length s → ((i : ℕ) → i < length w → get_or s i 0 ≡ get_or w i 0) → starts_with w s ≡ true
-unfolding starts_with
-starts-same [] s h e = refl
-starts-same (p ∷ w) [] h e = absurd (omega arith)
-starts-same (p ∷ w) (b ∷ s) h e = rw (eq-eqb b p (e 0 (omega arith))) (starts-same w s (omega arith) (λ i l. e (suc i) (omega arith)))
+stripped [] s = refl
+stripped (p ∷ w) [] = refl
+stripped (p ∷ w) (b ∷ s) = ap (λ t. eqb b p && t) (stripped w s)
 
 -- ---- `min:`, blanks
 
-min-none : (s : List ℕ) → starts_with min_text s ≡ false → min_blanks s ≡ none (fault 2)
-unfolding min_blanks min_word
-min-none s e = chain-none min_word (λ _. gap) s (fault 2) (rw e)
+module _ (s : List ℕ) where
+  pub min-none : pointwise eqb (take 4 s) min_text ≡ false → min_blanks s ≡ none (fault 2)
+  unfolding min_blanks min_word
+  min-none e = chain-none min_word (λ _. gap) s (fault 2) (rw (sym (stripped min_text s) ∙ e))
 
-pub min-short : (s : List ℕ) → length s < 4 → min_blanks s ≡ none (fault 2)
-min-short s h = min-none s (starts-short min_text s h)
-
-pub min-other : (s : List ℕ) (i : ℕ) → i < 4 → (get_or s i 0 ≡ get_or min_text i 0 → ⊥) → min_blanks s ≡ none (fault 2)
-min-other s i h n = min-none s (starts_other min_text s i h n)
-
-pub min-got : (s : List ℕ) (k : ℕ) → 4 ≤ length s → get_or s 0 0 ≡ letter_m → get_or s 1 0 ≡ 105 → get_or s 2 0 ≡ 110 → get_or s 3 0 ≡ colon
-    → k ≡ blanks (drop 4 s) → min_blanks s ≡ got k (4 + k)
-unfolding min_blanks min_word gap
-min-got s k h m i n c e = chain-got min_word (λ _. gap) s 0 4 (rw (starts-same min_text s h at)) ∙ rw (← e)
-  where
-    at : (j : ℕ) → j < 4 → get_or s j 0 ≡ get_or min_text j 0
-    at zero l = m
-    at (suc zero) l = i
-    at (suc (suc zero)) l = n
-    at (suc (suc (suc zero))) l = c
-    at (suc (suc (suc (suc j)))) l = absurd (omega arith)
+  pub min-got : pointwise eqb (take 4 s) min_text ≡ true → (k : ℕ) → k ≡ blanks (drop 4 s) → min_blanks s ≡ got k (4 + k)
+  unfolding min_blanks min_word gap
+  min-got e k f = chain-got min_word (λ _. gap) s 0 4 (rw (sym (stripped min_text s) ∙ e)) ∙ rw (← f)
 
 -- ---- comments
 

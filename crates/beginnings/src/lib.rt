@@ -6,69 +6,44 @@ ghost use Rattle.std.specs.Prelude.{◌≡◌};
 ghost use Rattle.definitions.specs.Text.{min_blanks, remark};
 ghost use Rattle.beginnings.specs.Said.{said_min, said_comment};
 
-// `min:` and the blanks behind it, with how many these are, or another word (2).
-#[derive(Clone, Copy)]
-pub enum MinRead {
-    Min(usize),
-    Missing,
-}
-
 // Where a comment's text begins, counted from its `*`, how long it is, and the bytes that the comment takes with its
 // line ending.
-#[derive(Clone, Copy)]
-pub enum CommentRead {
-    Comment {
-        first: usize,
-        count: usize,
-        taken: usize,
-    },
-    Missing,
+#[derive(Clone, Copy, Debug, PartialEq, Eq)]
+pub struct Comment {
+    pub first: usize,
+    pub count: usize,
+    pub taken: usize,
 }
 
-pub fn read_min(s: &[u8]) -> MinRead
+// How many blanks stand behind `min:`, or another word (2).
+pub fn read_min(s: &[u8]) -> Option<usize>
     ensures { said_min result ≡ min_blanks s.now }
 {
-    if s.len() < 4 {
-        return MinRead::Missing;
-    }
-    if s[0] != b'm' {
-        return MinRead::Missing;
-    }
-    if s[1] != b'i' {
-        return MinRead::Missing;
-    }
-    if s[2] != b'n' {
-        return MinRead::Missing;
-    }
-    if s[3] != b':' {
-        return MinRead::Missing;
-    }
-    MinRead::Min(blanks::blanks_of(&s[4..]))
+    let rest = s.strip_prefix(b"min:")?;
+    Some(blanks::blanks_of(rest))
 }
 
 // "`*`: comment to the line ending or file end, any bytes"; the text begins "after `*` and after one space directly
 // behind it, if there"
-pub fn read_comment(s: &[u8]) -> CommentRead
+pub fn read_comment(s: &[u8]) -> Option<Comment>
     ensures { said_comment result ≡ remark s.now }
 {
     if s.len() == 0 {
-        return CommentRead::Missing;
+        return None;
     }
     let n = blanks::until_ending_of(&s[1..]);
     let e = n + 1;
     let taken = e + blanks::line_ending_of(&s[e..]);
-    if 0 < n {
-        if s[1] == b' ' {
-            return CommentRead::Comment {
-                first: 2,
-                count: n - 1,
-                taken,
-            };
-        }
+    if 0 < n && s[1] == b' ' {
+        return Some(Comment {
+            first: 2,
+            count: n - 1,
+            taken,
+        });
     }
-    CommentRead::Comment {
+    Some(Comment {
         first: 1,
         count: n,
         taken,
-    }
+    })
 }

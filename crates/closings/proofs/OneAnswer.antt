@@ -1,19 +1,19 @@
 -- Each public function has one possible answer for each input: two that its contract allows are equal. None changes
 -- what it is lent.
 use mathlib.Core.Path.{◌≡◌, sym, ◌∙◌}
-use Rattle.definitions.proofs.Truths.{never}
 use Rattle.closings.specs.Closed.{said_row}
-use Rattle.closings.specs.declared.RowRead.{RowRead}
-use Rattle.closings.specs.declared.RowRead.TheVariants.{Row, Refused}
+use Rattle.definitions.specs.declared.Entry.{Entry}
+use Rattle.definitions.specs.declared.Fault.{Fault}
+use Rattle.std.specs.Prelude.{ℕ, Result, Ok, Err}
 use Rattle.closings.proofs.close_constraint.Reads as close-constraint
 use Rattle.closings.proofs.close_objective.Reads as close-objective
 
 -- an answer is known by what it says
-pub said_row_lem : (r r' : RowRead) → said_row r ≡ said_row r' → r ≡ r'
-said_row_lem (Row x n) (Row y m) e = cc
-said_row_lem (Row x n) (Refused j) e = never (cc)
-said_row_lem (Refused i) (Row y m) e = never (cc)
-said_row_lem (Refused i) (Refused j) e = cc
+pub said_row_lem : (r r' : Result (Entry × ℕ) Fault) → said_row r ≡ said_row r' → r ≡ r'
+said_row_lem (Ok (x, n)) (Ok (y, m)) e = cc
+said_row_lem (Ok (x, n)) (Err j) e = cc
+said_row_lem (Err i) (Ok (y, m)) e = cc
+said_row_lem (Err i) (Err j) e = cc
 
 pub close-constraint-one : (κs : _) (a : _) (r r' : _) (s s' : _) → close-constraint.Post κs a r s → close-constraint.Post κs a r' s'
     → r ≡ r'

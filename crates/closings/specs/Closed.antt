@@ -1,20 +1,19 @@
 -- What is kept of a row by what closes it: its entry, with its terms counted, and the bytes behind the sum.
-use Rattle.std.specs.Prelude.{ℕ, Bool, cond, ◌&&◌, leb, pos}
+use Rattle.std.specs.Prelude.{ℕ, Bool, cond, ◌&&◌, leb, pos, Result, Ok, Err}
 use Rattle.definitions.specs.Limits.{weight_limit, in_i64}
 use Rattle.definitions.specs.Refusal.{fault}
 use Rattle.definitions.specs.Reader.{Got, none, got}
 use Rattle.definitions.specs.Table.{kind_number}
 use Rattle.definitions.specs.Text.{Comparison, kind_of, bound_of}
+use Rattle.definitions.specs.declared.Fault.{Fault}
 use Rattle.definitions.specs.declared.Entry.{Entry}
 use Rattle.definitions.specs.declared.Kind.TheVariants.{Objective as objective}
 use Rattle.definitions.specs.declared.Options.{Options}
 use Rattle.columns.specs.Entries.{entry_of}
-use Rattle.closings.specs.declared.RowRead.{RowRead}
-use Rattle.closings.specs.declared.RowRead.TheVariants.{Row, Refused}
 
-abbrev pub said_row : RowRead → Got Entry
-said_row (Row x m) = got x m
-said_row (Refused e) = none e
+abbrev pub said_row : Result (Entry × ℕ) Fault → Got Entry
+said_row (Ok (x, m)) = got x m
+said_row (Err e) = none e
 
 -- what closes a sum of so many terms and of the size, as `finished` says: 8 where the size is above M or the bound
 -- beyond 64 bits

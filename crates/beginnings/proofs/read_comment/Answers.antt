@@ -8,7 +8,7 @@ use Rattle.definitions.specs.Bytes.{line_ending, until_ending}
 use Rattle.definitions.proofs.Parts.{part-is}
 use Rattle.beginnings.proofs.Comments.{remark-empty, comment-text-within, comment-within, remark-spaced, remark-plain, remark-bare}
 use Rattle.beginnings.proofs.read_comment.Goals as goal
-use Rattle.beginnings.proofs.read_comment.Goals.{After-line_ending_of, After-until_ending_of-n}
+use Rattle.beginnings.proofs.read_comment.Goals.{After-line_ending_of, After-until_ending_of-n, else-n-gt0-via-then-n-gt0+else-s-eq32, else-n-gt0-via-else-n-gt0}
 
 -- the text up to its line ending
 module _ (c : After-until_ending_of-n) where
@@ -62,16 +62,12 @@ returns-then-s-eq32 c =
     sym (remark-spaced (text e) (bytes e) (text-some e) (bytes-is e) c.line_ending_of.result (ending-is p)
     c.if-n-gt0.true c.if-s-eq32.true)
 
-pub returns-else-s-eq32 : goal.returns-else-s-eq32
-returns-else-s-eq32 c =
-    let p = (goal.at.returns-else-s-eq32 c).After-line_ending_of in
+pub returns : goal.returns
+returns c =
+    let p = (goal.at.returns c).After-line_ending_of in
     let e = here p in
-    sym (remark-plain (text e) (bytes e) (text-some e) (bytes-is e) c.line_ending_of.result (ending-is p)
-    c.if-n-gt0.true c.if-s-eq32.false)
-
-pub returns-else-n-gt0 : goal.returns-else-n-gt0
-returns-else-n-gt0 c =
-    let p = (goal.at.returns-else-n-gt0 c).After-line_ending_of in
-    let e = here p in
-    sym (remark-bare (text e) (bytes e) (text-some e) (bytes-is e) c.line_ending_of.result (ending-is p)
-    (omega arith))
+    elim c.else-n-gt0.branch [
+      | else-n-gt0-via-then-n-gt0+else-s-eq32 w ↦
+        sym (remark-plain (text e) (bytes e) (text-some e) (bytes-is e) _ (ending-is p) w.if-n-gt0.true w.if-s-eq32.false)
+      | else-n-gt0-via-else-n-gt0 w ↦ sym (remark-bare (text e) (bytes e) (text-some e) (bytes-is e) _ (ending-is p) (omega arith))
+    ]
