@@ -6,7 +6,6 @@ ghost use Rattle.statements.specs.Met.{goal_met, statement_met};
 ghost use Rattle.house_lengths.specs.Lengths.{line_length};
 ghost use Rattle.listing_lengths.specs.Measure.{fields_length};
 
-use beginnings::MinRead;
 use definitions::{Beginning, Entry, Options};
 use house_lengths::TermLength;
 use pieces::NextTerm;
@@ -42,7 +41,7 @@ fn sum_length(s: &[u8], options: Options) -> u64
 fn goal_length(s: &[u8], options: Options) -> u64
     ensures { result ≡ fields_length options.first (goal_met options s.now) }
 {
-    let MinRead::Min(k) = beginnings::read_min(s) else {
+    let Some(k) = beginnings::read_min(s) else {
         return 0;
     };
     let a = k + 4;

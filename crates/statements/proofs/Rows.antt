@@ -31,8 +31,8 @@ use Rattle.definitions.proofs.Statements.{RowTaken, remark-taken, within-compari
 use Rattle.definitions.proofs.Texts.{blanks-within}
 use Rattle.term_checks.specs.Sizes.{capped}
 use Rattle.beginnings.specs.Said.{said_comment}
-use Rattle.beginnings.specs.declared.CommentRead.{CommentRead}
-use Rattle.beginnings.specs.declared.CommentRead.TheVariants as comment'
+use Rattle.beginnings.specs.declared.Comment.{Comment as Remark}
+use Rattle.std.specs.Prelude.{Option, Some, None}
 use Rattle.columns.specs.Entries.{entry_of, entry_alone}
 use Rattle.closings.specs.Closed.{closed_by, ended_by}
 use Rattle.statements.specs.Brief.{brief_row, brief_step, row_after, comment_after}
@@ -171,10 +171,10 @@ unfolding remark
 first-within [] f n z m e = never (cc)
 first-within (b ∷ s) f n z m e = let q : 1 + space_after s ≡ f = cc in omega (arith, space-within s)
 
-pub comment-fits : (k : ℕ) (s : List ℕ) → k + length s < 2 ^ 64 → (r : CommentRead) → said_comment r ≡ remark s → CommentFitting k r
-comment-fits k s h (comment'.Comment f n m) e =
-    (omega (arith, first-within s f n (pos 0) m (sym e)), omega (arith, (remark-taken s (comment f n (pos 0)) m (sym e)).1))
-comment-fits k s h comment'.Missing e = tt
+pub comment-fits : (k : ℕ) (s : List ℕ) → k + length s < 2 ^ 64 → (r : Option Remark) → said_comment r ≡ remark s → CommentFitting k r
+comment-fits k s h (Some c) e =
+    (omega (arith, first-within s c.first c.count (pos 0) c.taken (sym e)), omega (arith, (remark-taken s (comment c.first c.count (pos 0)) c.taken (sym e)).1))
+comment-fits k s h None e = tt
 
 comment-after-is : (k : ℕ) (g : Got Line) → comment_after k g ≡ brief_step (after_blanks k g)
 comment-after-is k (none e) = refl

@@ -1,6 +1,6 @@
 -- What a walk over a row or a statement answers, and what it leaves in two lent columns: the terms that it met, as far
 -- as both have room.
-use Rattle.std.specs.Prelude.{ℕ, ◌≡◌, List, ℤ}
+use Rattle.std.specs.Prelude.{ℕ, ◌≡◌, List, ℤ, Result}
 use Rattle.definitions.specs.Reader.{Got}
 use Rattle.definitions.specs.Row.{Term, Row}
 use Rattle.definitions.specs.Text.{statement}
@@ -10,10 +10,11 @@ use Rattle.statements.specs.Brief.{brief_row, brief_step}
 use Rattle.statements.specs.Met.{statement_met}
 use Rattle.statements.specs.Said.{said_statement}
 use Rattle.closings.specs.Closed.{said_row}
-use Rattle.closings.specs.declared.RowRead.{RowRead}
+use Rattle.definitions.specs.declared.Entry.{Entry}
+use Rattle.definitions.specs.declared.Fault.{Fault}
 use Rattle.statements.specs.declared.row.StatementRead.{StatementRead}
 
-pub record RowWalked (g : Got Row) (ts : List Term) (w₀ : List ℤ) (l₀ : List ℕ) (r : RowRead) (w : List ℤ) (l : List ℕ) : Type 0 where
+pub record RowWalked (g : Got Row) (ts : List Term) (w₀ : List ℤ) (l₀ : List ℕ) (r : Result (Entry × ℕ) Fault) (w : List ℤ) (l : List ℕ) : Type 0 where
   pub answer : said_row r ≡ brief_row g
   pub filled : TermsPut ts w₀ l₀ w l
 

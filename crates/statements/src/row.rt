@@ -7,9 +7,8 @@ ghost use Rattle.statements.specs.Fitting.{Fitting, CommentFitting};
 ghost use Rattle.beginnings.specs.Said.{said_comment};
 ghost use Rattle.statements.specs.Said.{said_statement};
 
-use beginnings::CommentRead;
-use closings::RowRead;
-use definitions::{COMMENT, Entry, Refusal};
+use beginnings::Comment;
+use definitions::{COMMENT, Entry, Fault, Refusal};
 
 // Nothing but blanks; a refusal; a row of the table, with the bytes that its statement takes. A refusal's place and a
 // comment's first are counted from where the reading began; a comment has no terms.
@@ -21,57 +20,48 @@ pub enum StatementRead {
 }
 
 // A row's answer, behind a sum of n bytes.
-pub(crate) fn behind(n: usize, r: RowRead) -> RowRead
+pub(crate) fn behind(n: usize, r: Result<(Entry, usize), Fault>) -> Result<(Entry, usize), Fault>
     requires { Fitting n (said_row r) }
     ensures { said_row result ≡ more n (said_row r) }
 {
-    match r {
-        RowRead::Refused(e) => RowRead::Refused(e),
-        RowRead::Row { entry, taken } => RowRead::Row {
-            entry,
-            taken: n + taken,
-        },
-    }
+    let (entry, taken) = r?;
+    Ok((entry, n + taken))
 }
 
 // A row's answer, k blanks on.
-pub(crate) fn row_after(k: usize, r: RowRead) -> StatementRead
+pub(crate) fn row_after(k: usize, r: Result<(Entry, usize), Fault>) -> StatementRead
     requires { Fitting k (said_row r) }
     ensures { said_statement result ≡ row_after k (said_row r) }
 {
     match r {
-        RowRead::Refused(e) => StatementRead::Refused(Refusal {
+        Err(e) => StatementRead::Refused(Refusal {
             number: e.number,
             place: k as u64,
         }),
-        RowRead::Row { entry, taken } => StatementRead::Line {
+        Ok((entry, taken)) => StatementRead::Line {
             entry,
             taken: k + taken,
         },
     }
 }
 
-pub(crate) fn comment_after(k: usize, r: CommentRead) -> StatementRead
+pub(crate) fn comment_after(k: usize, r: Option<Comment>) -> StatementRead
     requires { CommentFitting k r }
     ensures { said_statement result ≡ comment_after k (said_comment r) }
 {
     match r {
-        CommentRead::Missing => StatementRead::Refused(Refusal {
+        None => StatementRead::Refused(Refusal {
             number: 2,
             place: k as u64,
         }),
-        CommentRead::Comment {
-            first,
-            count,
-            taken,
-        } => StatementRead::Line {
+        Some(comment) => StatementRead::Line {
             entry: Entry {
                 kind: COMMENT,
-                first: k + first,
-                count,
+                first: k + comment.first,
+                count: comment.count,
                 bound: 0,
             },
-            taken: k + taken,
+            taken: k + comment.taken,
         },
     }
 }

@@ -9,16 +9,19 @@ ghost use Rattle.statements.specs.Walked.{RowWalked, StatementWalked};
 ghost use Rattle.statements.specs.Said.{said_statement};
 
 use crate::row::StatementRead;
-use beginnings::MinRead;
-use closings::RowRead;
-use definitions::{Beginning, Fault, Options, Refusal};
+use definitions::{Beginning, Entry, Fault, Options, Refusal};
 use sums::SumRead;
 
-fn constraint(s: &[u8], options: Options, weights: &mut [i64], literals: &mut [u32]) -> RowRead
+fn constraint(
+    s: &[u8],
+    options: Options,
+    weights: &mut [i64],
+    literals: &mut [u32],
+) -> Result<(Entry, usize), Fault>
     ensures { RowWalked (constraint options s.now) (met_terms options s.now) weights.old literals.old result weights.new literals.new }
 {
     match sums::weighted_lit_sum(s, options, weights, literals) {
-        SumRead::Refused(e) => RowRead::Refused(e),
+        SumRead::Refused(e) => Err(e),
         SumRead::Sum { terms, size, taken } => crate::row::behind(
             taken,
             closings::close_constraint(&s[taken..], options, terms, size),
@@ -26,15 +29,20 @@ fn constraint(s: &[u8], options: Options, weights: &mut [i64], literals: &mut [u
     }
 }
 
-fn objective(s: &[u8], options: Options, weights: &mut [i64], literals: &mut [u32]) -> RowRead
+fn objective(
+    s: &[u8],
+    options: Options,
+    weights: &mut [i64],
+    literals: &mut [u32],
+) -> Result<(Entry, usize), Fault>
     ensures { RowWalked (goal options s.now) (goal_met options s.now) weights.old literals.old result weights.new literals.new }
 {
-    let MinRead::Min(k) = beginnings::read_min(s) else {
-        return RowRead::Refused(Fault { number: 2 });
+    let Some(k) = beginnings::read_min(s) else {
+        return Err(Fault { number: 2 });
     };
     let a = k + 4;
     match sums::weighted_lit_sum(&s[a..], options, weights, literals) {
-        SumRead::Refused(e) => RowRead::Refused(e),
+        SumRead::Refused(e) => Err(e),
         SumRead::Sum { terms, size, taken } => {
             let e = a + taken;
             crate::row::behind(e, closings::close_objective(&s[e..], options, terms, size))

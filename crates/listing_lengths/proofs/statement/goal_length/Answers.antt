@@ -14,21 +14,21 @@ use Rattle.statements.proofs.MetTerms.{goal-none, goal-behind}
 use Rattle.listing_lengths.specs.Measure.{fields_length}
 use Rattle.listing_lengths.proofs.LineLengths.{none-length}
 use Rattle.listing_lengths.proofs.statement.goal_length.Goals as goal
-use Rattle.listing_lengths.proofs.statement.goal_length.Goals.{In-Min, Start}
+use Rattle.listing_lengths.proofs.statement.goal_length.Goals.{In-Some, Start}
 
 -- `min:` and k blanks were read
-module _ (c : In-Min) where
+module _ (c : In-Some) where
   abbrev start : Start
-  start = (goal.at.In-Min c).Start
+  start = (goal.at.In-Some c).Start
 
   abbrev text : List ℕ
   text = start.args.s.now
 
   abbrev gap : ℕ
-  gap = c.in-Min.k
+  gap = c.in-Some.k
 
   begun : got gap (4 + gap) ≡ min_blanks text
-  begun = sym (ap said_min c.in-Min.is) ∙ c.read_min.ensures
+  begun = sym (ap said_min c.in-Some.is) ∙ c.read_min.ensures
 
   within : gap + 4 ≤ length text
   within = omega (arith, within-min-blanks.most text gap (4 + gap) (sym begun))
@@ -50,8 +50,8 @@ slice_bounds-sum_length-start c = within c
 
 pub returns : goal.returns
 returns c =
-    let s = start (goal.at.returns c).In-Min in
-    let e : min_blanks (text (goal.at.returns c).In-Min) ≡ got (gap (goal.at.returns c).In-Min) (gap (goal.at.returns c).In-Min + 4) = sym (begun (goal.at.returns c).In-Min) ∙ ap (got (gap (goal.at.returns c).In-Min)) (omega arith) in
+    let s = start (goal.at.returns c).In-Some in
+    let e : min_blanks (text (goal.at.returns c).In-Some) ≡ got (gap (goal.at.returns c).In-Some) (gap (goal.at.returns c).In-Some + 4) = sym (begun (goal.at.returns c).In-Some) ∙ ap (got (gap (goal.at.returns c).In-Some)) (omega arith) in
     c.sum_length.ensures
-    ∙ ap (λ (t : List ℕ). fields_length s.args.options.first (met_terms s.args.options t)) (part-is (text (goal.at.returns c).In-Min) (gap (goal.at.returns c).In-Min + 4))
-    ∙ ap (fields_length s.args.options.first) (sym (goal-behind s.args.options (text (goal.at.returns c).In-Min) (gap (goal.at.returns c).In-Min) (gap (goal.at.returns c).In-Min + 4) e))
+    ∙ ap (λ (t : List ℕ). fields_length s.args.options.first (met_terms s.args.options t)) (part-is (text (goal.at.returns c).In-Some) (gap (goal.at.returns c).In-Some + 4))
+    ∙ ap (fields_length s.args.options.first) (sym (goal-behind s.args.options (text (goal.at.returns c).In-Some) (gap (goal.at.returns c).In-Some) (gap (goal.at.returns c).In-Some + 4) e))

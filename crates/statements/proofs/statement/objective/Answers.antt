@@ -20,18 +20,18 @@ use Rattle.statements.proofs.MetTerms.{none-put, goal-none, goal-behind}
 use Rattle.statements.proofs.Rows.{goal-no-min, goal-no-sum, goal-sum, ended-fits}
 use Rattle.sums.proofs.Sums.{SumIs, sum_of, sum-refused}
 use Rattle.statements.proofs.statement.objective.Goals as goal
-use Rattle.statements.proofs.statement.objective.Goals.{After-close_objective, After-weighted_lit_sum, In-Min, In-Sum, Start}
+use Rattle.statements.proofs.statement.objective.Goals.{After-close_objective, After-weighted_lit_sum, In-Some, In-Sum, Start}
 
 -- `min:` is read
-module _ (c : In-Min) where
+module _ (c : In-Some) where
   abbrev start : Start
-  start = (goal.at.In-Min c).Start
+  start = (goal.at.In-Some c).Start
 
   abbrev text : List ℕ
   text = start.args.s.now
 
   abbrev blanks : ℕ
-  blanks = c.in-Min.k
+  blanks = c.in-Some.k
 
   abbrev min-end : ℕ
   min-end = blanks + 4
@@ -39,15 +39,15 @@ module _ (c : In-Min) where
   min-got : min_blanks text ≡ got blanks min-end
   min-got =
       let e : 4 + blanks ≡ blanks + 4 = omega arith in
-      sym c.read_min.ensures ∙ ap said_min c.in-Min.is ∙ ap (got blanks) e
+      sym c.read_min.ensures ∙ ap said_min c.in-Some.is ∙ ap (got blanks) e
 
   min-within : min-end ≤ length text
   min-within = within-min-blanks.most text blanks min-end min-got
 
 -- what was read behind it
 module _ (c : After-weighted_lit_sum) where
-  abbrev behind-min : In-Min
-  behind-min = (goal.at.After-weighted_lit_sum c).In-Min
+  abbrev behind-min : In-Some
+  behind-min = (goal.at.After-weighted_lit_sum c).In-Some
 
   sum_said : said_sum c.weighted_lit_sum.result
       ≡ summed (sum (start behind-min).args.options (drop (min-end behind-min) (text behind-min)))
