@@ -268,13 +268,13 @@ module _ (named : Bool) (ws ks block : List ℕ) (end base : ℕ) where
     pub walk_ends : ends ≡ step_of named (items_from (spot_of opens) at (drop at block)) → w ≡ window_of ws ks end base all
     walk_ends e =
         marking-end ws ks end base all marks w
-        (rw (ends-step named 0 (items_from (spot_of opens) at (drop at block)) (sym e)).0 at k.marking)
+        (rw (ends-step named (items_from (spot_of opens) at (drop at block)) (sym e)).0 at k.marking)
 
     pub walk-refuses : (n p : ℕ) → refuses n p ≡ step_of named (items_from (spot_of opens) at (drop at block))
         → w ≡ window_of ws ks end base all
     walk-refuses n p e =
         marking-end ws ks end base all marks w
-        (rw (refuses-step named 0 (items_from (spot_of opens) at (drop at block)) n p (sym e)).0 at k.marking)
+        (rw (refuses-step named (items_from (spot_of opens) at (drop at block)) n p (sym e)).0 at k.marking)
 
     pub walk-nothing : (p e : ℕ) → e ≤ length block
         → says p [] (on_from block e) ≡ step_of named (items_from (spot_of opens) at (drop at block))
@@ -282,7 +282,7 @@ module _ (named : Bool) (ws ks block : List ℕ) (end base : ℕ) where
     walk-nothing p e h q =
         record {
           inside = h;
-          marking = rw (says-step named 0 (items_from (spot_of opens) at (drop at block)) p [] (on_from block e) (sym q)).0 at k.marking;
+          marking = rw (says-step named (items_from (spot_of opens) at (drop at block)) p [] (on_from block e) (sym q)).0 at k.marking;
         }
 
     walk-says : (p e c : ℕ) → e ≤ length block
@@ -290,7 +290,7 @@ module _ (named : Bool) (ws ks block : List ℕ) (end base : ℕ) where
         → Walk named ws ks block end base (marked_by (meet_of ws ks marks base c) base c marks)
         (noted (meet_of ws ks marks base c) p w) e false
     walk-says p e c h q =
-        let t = (says-step named 0 (items_from (spot_of opens) at (drop at block)) p (c ∷ []) (on_from block e) (sym q)).0 in
+        let t = (says-step named (items_from (spot_of opens) at (drop at block)) p (c ∷ []) (on_from block e) (sym q)).0 in
         let a : Ascending at (placed p c ∷ said_by named (on_from block e)) =
         rw t at (orderly_from named (spot_of opens) block at k.inside).ascending in
         record {

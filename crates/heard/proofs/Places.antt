@@ -7,6 +7,7 @@ use mathlib.Core.List.{List, [], ◌∷◌, ◌++◌, map}
 use native.Mathlib.Omega.{arith}
 use borrow.Author.Tests.{leb-true}
 use lib.Dec.{leb, eqb}
+use Rattle.std.specs.Prelude.{Option, Some, None}
 use lib.ListN.{length, drop, length-drop}
 use Rattle.definitions.specs.Limits.{index_limit, file_number_limit}
 use Rattle.definitions.specs.Bytes.{lf, minus, plus, tilde, letter_x}
@@ -98,6 +99,11 @@ says-one false s = fine-signed s
 
 -- ---- in order
 
+-- where the walk stops: at what is refused, or at the end
+abbrev pub stop_place : ℕ → Option Refusal → ℕ
+stop_place end None = end
+stop_place end (Some r) = r.place
+
 -- literals from the offset `from` on, before the place `stop`
 pub record Orderly (from stop : ℕ) (xs : List Placed) : Type 0 where
   pub ascending : Ascending from xs
@@ -106,7 +112,7 @@ pub record Orderly (from stop : ℕ) (xs : List Placed) : Type 0 where
   pub ahead : from ≤ stop
 
 abbrev pub OrderlyAt : Bool → ℕ → ℕ → List Item → Type 0
-OrderlyAt named end from is = Orderly from (stop_of named end is).place (said_by named is)
+OrderlyAt named end from is = Orderly from (stop_place end (stop_of named is)) (said_by named is)
 
 module _ (named : Bool) (end from : ℕ) where
   orderly-skip : (is : List Item) → OrderlyAt named end (from + 1) is → OrderlyAt named end from is
@@ -127,7 +133,7 @@ module _ (named : Bool) (end from : ℕ) where
   orderly-untagged = record { ascending = tt; below = tt; known = tt; ahead = omega arith }
 
   orderly-said : (cs : List ℕ) (is : List Item) → AtMostOne cs → OrderlyAt named end (from + 1) is
-      → Orderly from (stop_of named end is).place (map (placed from) cs ++ said_by named is)
+      → Orderly from (stop_place end (stop_of named is)) (map (placed from) cs ++ said_by named is)
   orderly-said [] is f o = orderly-skip is o
   orderly-said (c ∷ []) is f o =
       record {
@@ -144,7 +150,7 @@ module _ (named : Bool) (end from : ℕ) where
     where
       pick : (x : Checked (List ℕ)) → Fine x → Orderly
           from
-          (elim x as (λ (y : Checked (List ℕ)). Refusal) [ refuse e ↦ refusal e from | accept cs ↦ stop_of named end is ]).place
+          (stop_place end (elim x as (λ (y : Checked (List ℕ)). Option Refusal) [ refuse e ↦ Some (refusal e from) | accept cs ↦ stop_of named is ]))
           (elim x [ refuse e ↦ [] | accept cs ↦ map (placed from) cs ++ said_by named is ])
       pick (refuse e) f = record { ascending = tt; below = tt; known = tt; ahead = omega arith }
       pick (accept cs) f = orderly-said cs is f o

@@ -1,7 +1,7 @@
 // The first conflict in a block of signed numbers or `x` tokens (02, A1: "22 conflicting value"). Nothing may be marked
 // in the lent words before the block is known to be good, so what a token said is marked in a local row of bits, for a
 // window of variables; each window in use has a walk of its own. Assumes nothing.
-ghost use Rattle.std.specs.Prelude.{◌≡◌, [], ◌≤◌, min, length};
+ghost use Rattle.std.specs.Prelude.{◌≡◌, [], ◌≤◌, length};
 ghost use Rattle.definitions.specs.Literal.{index_of};
 ghost use Rattle.definitions.specs.Values.{front, items_from};
 ghost use Rattle.settling.specs.Flat.{said_by};
@@ -10,20 +10,20 @@ ghost use Rattle.heard.specs.Windows.{conflict_at, window_of, marks_size, Places
 use bits::{bit_at, is_otherwise, make_bit};
 use definitions::INDEX_LIMIT;
 use literals::Lit;
-use tokens::{Next, next_token};
+use tokens::next_token;
 
 // How many variables a window has.
 const WINDOW: u32 = 1_048_576;
 
 // The place of the first conflict of a window, and the least variable behind the window.
-#[derive(Drop)]
+#[derive(Clone, Copy, Debug, PartialEq, Eq)]
 pub(crate) struct Window {
     pub place: usize,
     pub next: u32,
 }
 
 // What a literal is to a window: not its own, a conflict, or marked.
-#[derive(Drop)]
+#[derive(Clone, Copy, Debug, PartialEq, Eq)]
 enum Met {
     Before,
     Behind(u32),
@@ -37,11 +37,8 @@ fn clashes(literal: Lit, base: u32, marks: &[u64], values: &[u64], known: &[u64]
     requires { base ≤ index_of literal.0 }
     ensures { result ≡ clashes values.now known.now marks.now base literal.0 }
 {
-    if is_otherwise(literal, values, known) {
-        return true;
-    }
     let opposite = literal.negated().code();
-    bit_at(marks, (opposite - 2 * base) as usize)
+    is_otherwise(literal, values, known) || bit_at(marks, (opposite - 2 * base) as usize)
 }
 
 // A literal of the window that does not clash is marked.
@@ -64,34 +61,21 @@ fn meet(literal: Lit, base: u32, marks: &mut [u64], values: &[u64], known: &[u64
     Met::Marked
 }
 
-fn least(a: u32, b: u32) -> u32
-    ensures { result ≡ min a b }
-{
-    if a < b { a } else { b }
-}
-
-fn earlier(a: usize, b: usize) -> usize
-    ensures { result ≡ min a b }
-{
-    if a < b { a } else { b }
-}
-
 // The answer so far, with one literal more. After the first conflict the walk goes on for the variables behind the
 // window; a later conflict has a later place.
 fn note(met: Met, place: usize, found: Window) -> Window
     ensures { result ≡ noted met place found }
 {
     match met {
-        Met::Before => found,
+        Met::Before | Met::Marked => found,
         Met::Behind(v) => Window {
-            place: found.place,
-            next: least(found.next, v),
+            next: found.next.min(v),
+            ..found
         },
         Met::Conflict => Window {
-            place: earlier(found.place, place),
-            next: found.next,
+            place: found.place.min(place),
+            ..found
         },
-        Met::Marked => found,
     }
 }
 
@@ -116,29 +100,15 @@ fn mark_window(
     };
     let mut at: usize = 0;
     let mut opens = true;
-    loop {
-        match next_token(block, at, opens, named) {
-            Next::End => return found,
-            Next::Refused {
-                number: _,
-                place: _,
-            } => return found,
-            Next::Nothing {
-                place: _,
-                end: behind,
-            } => at = behind,
-            Next::Says {
-                place,
-                end: behind,
-                literal,
-            } => {
-                let met = meet(literal, base, marks, values, known);
-                found = note(met, place, found);
-                at = behind;
-            }
+    while let Ok(Some(said)) = next_token(block, at, opens, named) {
+        if let Some(literal) = said.literal {
+            let met = meet(literal, base, marks, values, known);
+            found = note(met, said.place, found);
         }
+        at = said.end;
         opens = false;
     }
+    found
 }
 
 // Two literals to a variable, 64 marks to a word: 32,768 words.
@@ -172,7 +142,7 @@ pub(crate) fn first_conflict(
     let mut base: u32 = 0;
     while base <= INDEX_LIMIT {
         let w = walk_for(block, named, end, base, values, known);
-        found = earlier(found, w.place);
+        found = found.min(w.place);
         base = w.next;
     }
     found

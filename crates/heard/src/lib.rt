@@ -23,8 +23,11 @@ pub fn hear(
 ) -> Result<usize, Refusal>
     ensures { said_length result ≡ new_length kept (hear (form_by named) kept values.now known.now [] (items_from front 0 block.now)) }
 {
-    let found = survey::survey(block, named, kept);
-    let end = found.place;
+    let surveyed = survey::survey(block, named, kept);
+    let end = match surveyed {
+        Ok(_) => block.len(),
+        Err(stop) => stop.place as usize,
+    };
     let conflict = conflicts::first_conflict(block, named, end, values, known);
     if conflict < end {
         return Err(Refusal {
@@ -32,11 +35,5 @@ pub fn hear(
             place: conflict as u64,
         });
     }
-    if found.number != 0 {
-        return Err(Refusal {
-            number: found.number,
-            place: end as u64,
-        });
-    }
-    Ok(found.length as usize)
+    surveyed
 }

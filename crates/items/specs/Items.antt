@@ -1,10 +1,8 @@
 -- What is met next in a block, and what the answers of src/lib.rt say of it.
-use Rattle.std.specs.Prelude.{ℕ, ◌+◌, Bool, true, false, List, [], ◌∷◌, length, drop}
+use Rattle.std.specs.Prelude.{ℕ, ◌+◌, Bool, true, false, List, [], ◌∷◌, length, drop, Option, Some, None, Result, Ok, Err}
 use Rattle.definitions.specs.Values.{is_solid, front_of, Item, untagged, token, Spot, front, between, items_from}
-use Rattle.items.specs.declared.Sought.{Sought}
-use Rattle.items.specs.declared.Sought.TheVariants as sought
-use Rattle.items.specs.declared.NextItem.{NextItem}
-use Rattle.items.specs.declared.NextItem.TheVariants as item
+use Rattle.items.specs.declared.Untagged.{Untagged}
+use Rattle.items.specs.declared.Token.{Token}
 
 abbrev pub spot_of : Bool → Spot
 spot_of true = front
@@ -24,10 +22,10 @@ sought_of (token p s ∷ is) = word p
 abbrev pub found_from : Bool → ℕ → List ℕ → Found
 found_from opens from block = sought_of (items_from (spot_of opens) from (drop from block))
 
-abbrev pub said_sought : Sought → Found
-said_sought sought.End = nothing
-said_sought (sought.Untagged p) = line p
-said_sought (sought.Token p) = word p
+abbrev pub said_sought : Result (Option ℕ) Untagged → Found
+said_sought (Ok None) = nothing
+said_sought (Ok (Some p)) = word p
+said_sought (Err e) = line e.0
 
 -- ---- the same with a token's end
 
@@ -43,7 +41,7 @@ end_at block place = place + length (text_at block place)
 abbrev pub on_from : List ℕ → ℕ → List Item
 on_from block end = items_from between end (drop end block)
 
-abbrev pub item_by : List ℕ → Found → NextItem
-item_by block nothing = item.End
-item_by block (line p) = item.Untagged p
-item_by block (word p) = item.Token p (end_at block p)
+abbrev pub item_by : List ℕ → Found → Result (Option Token) Untagged
+item_by block nothing = Ok None
+item_by block (line p) = Err (record { 0 = p })
+item_by block (word p) = Ok (Some (record { place = p; end = end_at block p }))

@@ -1,6 +1,6 @@
 -- A block of signed numbers or `x` tokens as one list: the literals that it says before the first 20, 21 or 5, each
 -- with its token's place, and that refusal.
-use Rattle.std.specs.Prelude.{ℕ, Bool, List, [], ◌∷◌, ◌++◌, map}
+use Rattle.std.specs.Prelude.{ℕ, Bool, List, [], ◌∷◌, ◌++◌, map, Option, Some, None}
 use Rattle.definitions.specs.Refusal.{refusal, refuse, accept}
 use Rattle.definitions.specs.declared.Refusal.{Refusal}
 use Rattle.definitions.specs.Values.{Item, untagged, token}
@@ -21,8 +21,8 @@ said_by named [] = []
 said_by named (untagged p ∷ is) = []
 said_by named (token p s ∷ is) = elim (token_says named s) [ refuse e ↦ [] | accept cs ↦ map (placed p) cs ++ said_by named is ]
 
--- the first 20, 21 or 5; where there is none, 0 at the block's end
-unfoldable pub stop_of : Bool → ℕ → List Item → Refusal
-stop_of named end [] = refusal 0 end
-stop_of named end (untagged p ∷ is) = refusal 20 p
-stop_of named end (token p s ∷ is) = elim (token_says named s) [ refuse e ↦ refusal e p | accept cs ↦ stop_of named end is ]
+-- the first 20, 21 or 5, or none
+unfoldable pub stop_of : Bool → List Item → Option Refusal
+stop_of named [] = None
+stop_of named (untagged p ∷ is) = Some (refusal 20 p)
+stop_of named (token p s ∷ is) = elim (token_says named s) [ refuse e ↦ Some (refusal e p) | accept cs ↦ stop_of named is ]

@@ -7,7 +7,7 @@ ghost use Rattle.definitions.specs.Values.{front, items_from, valued, marked};
 ghost use Rattle.settling.specs.Flat.{said_by, code_in};
 
 use bits::make_true;
-use tokens::{Next, next_token};
+use tokens::next_token;
 
 pub fn settle(block: &[u8], named: bool, values: &mut [u64], known: &mut [u64])
     ensures values { values.new ≡ valued (map code_in (said_by named (items_from front 0 block.now))) values.old }
@@ -15,23 +15,11 @@ pub fn settle(block: &[u8], named: bool, values: &mut [u64], known: &mut [u64])
 {
     let mut at: usize = 0;
     let mut opens = true;
-    loop {
-        match next_token(block, at, opens, named) {
-            Next::End => return,
-            Next::Refused {
-                number: _,
-                place: _,
-            } => return,
-            Next::Nothing { place: _, end } => at = end,
-            Next::Says {
-                place: _,
-                end,
-                literal,
-            } => {
-                make_true(literal, values, known);
-                at = end;
-            }
+    while let Ok(Some(said)) = next_token(block, at, opens, named) {
+        if let Some(literal) = said.literal {
+            make_true(literal, values, known);
         }
+        at = said.end;
         opens = false;
     }
 }

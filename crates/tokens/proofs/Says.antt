@@ -78,9 +78,6 @@ module _ (negative : Bool) (n : ℕ) where
       cases (no h) =
           literal-is negative n (index 1 (min n cap)) (sym (index-beyond 1 (min n cap) (omega arith)) ∙ index-beyond 1 n (omega arith))
 
-  pub signed-zero : n ≡ 0 → accept [] ≡ signed_for negative n
-  signed-zero e = ap (λ (b : Bool). cond b (accept []) (literal_for negative n)) (sym (eq-eqb n 0 e))
-
   pub signed-some : (n ≡ 0 → ⊥) → literal_for negative n ≡ signed_for negative n
   signed-some h = ap (λ (b : Bool). cond b (accept []) (literal_for negative n)) (sym (ne_eqb n 0 h))
 
@@ -99,11 +96,6 @@ capped-then f k h (refuse e) q = ap (λ (x : Checked ℕ). and_then x f) q
 capped-then f k h (accept n) q = ap (λ (x : Checked ℕ). and_then x f) q ∙ k n
 
 -- ---- a sign or none
-pub signed-empty : (s : List ℕ) → length s ≡ 0 → refuse 21 ≡ signed_token s
-unfolding signed_token
-signed-empty [] e = refl
-signed-empty (b ∷ s) e = absurd (omega arith)
-
 pub signed-minus : (s : List ℕ) → (length s ≡ 0 → ⊥) → get_or s 0 0 ≡ minus
     → and_then (whole_number (drop 1 s)) (signed_for true) ≡ signed_token s
 unfolding signed_token
@@ -115,11 +107,12 @@ unfolding signed_token
 signed-plus [] h e = absurd (h refl)
 signed-plus (b ∷ s) h e = rw e
 
-pub signed-plain : (s : List ℕ) → (length s ≡ 0 → ⊥) → (get_or s 0 0 ≡ minus → ⊥) → (get_or s 0 0 ≡ plus → ⊥)
+pub signed-plain : (s : List ℕ) → (length s ≡ 0) ⊎ ((get_or s 0 0 ≡ minus → ⊥) × (get_or s 0 0 ≡ plus → ⊥))
     → and_then (whole_number s) (signed_for false) ≡ signed_token s
-unfolding signed_token
-signed-plain [] h e f = absurd (h refl)
-signed-plain (b ∷ s) h e f = rw (ne_eqb b minus e, ne_eqb b plus f)
+unfolding signed_token whole_number leading
+signed-plain [] h = refl
+signed-plain (b ∷ s) (inl e) = absurd (omega arith)
+signed-plain (b ∷ s) (inr h) = rw (ne_eqb b minus h.0, ne_eqb b plus h.1)
 
 -- ---- `x`, and a negation or none
 pub named-empty : (negative : Bool) (s : List ℕ) → length s ≡ 0 → refuse 21 ≡ named_variable negative s
@@ -138,18 +131,14 @@ unfolding named_variable
 named-x negative [] h e = absurd (h refl)
 named-x negative (b ∷ s) h e = rw (eq-eqb b letter_x e)
 
-pub x-empty : (s : List ℕ) → length s ≡ 0 → refuse 21 ≡ x_token s
-unfolding x_token
-x-empty [] e = refl
-x-empty (b ∷ s) e = absurd (omega arith)
-
 pub x-negated : (s : List ℕ) → (length s ≡ 0 → ⊥) → OneOf (minus ∷ tilde ∷ []) (get_or s 0 0) → named_variable true (drop 1 s) ≡ x_token s
 unfolding x_token
 x-negated [] h e = absurd (h refl)
 x-negated (b ∷ s) h (inl e) = rw e
 x-negated (b ∷ s) h (inr e) = rw e
 
-pub x-plain : (s : List ℕ) → (length s ≡ 0 → ⊥) → (OneOf (minus ∷ tilde ∷ []) (get_or s 0 0) → ⊥) → named_variable false s ≡ x_token s
-unfolding x_token
-x-plain [] h n = absurd (h refl)
-x-plain (b ∷ s) h n = rw (ne_eqb b tilde (λ e. n (inr e)), ne_eqb b minus (λ e. n (inl e)))
+pub x-plain : (s : List ℕ) → (length s ≡ 0) ⊎ (OneOf (minus ∷ tilde ∷ []) (get_or s 0 0) → ⊥) → named_variable false s ≡ x_token s
+unfolding x_token named_variable
+x-plain [] h = refl
+x-plain (b ∷ s) (inl e) = absurd (omega arith)
+x-plain (b ∷ s) (inr n) = rw (ne_eqb b tilde (λ e. n (inr e)), ne_eqb b minus (λ e. n (inl e)))

@@ -4,4 +4,4 @@
 mod next;
 mod token;
 
-pub use next::{Next, next_token};
+pub use next::{Said, next_token};

@@ -7,17 +7,18 @@ use native.Mathlib.Omega.{arith}
 use borrow.Author.Tests.{leb-true, not-true, not-false}
 use lib.Dec.{leb}
 use lib.ListN.{length, take, drop, length-drop}
+use Rattle.std.specs.Prelude.{Option, Result, Err}
 use Rattle.definitions.specs.Limits.{index_limit}
 use Rattle.definitions.specs.Refusal.{refusal}
+use Rattle.definitions.specs.declared.Refusal.{Refusal}
 use Rattle.definitions.specs.Table.{refused, accepted}
 use Rattle.definitions.specs.Values.{is_solid, form_of, Item, untagged, token, front, items_from, appended, bits_token}
 use Rattle.definitions.specs.Values.{any_conflict, hear}
 use Rattle.definitions.specs.declared.Form.{Form}
 use Rattle.definitions.specs.declared.Form.TheVariants.{ZerosAndOnes}
 use Rattle.items.specs.Items.{Found, nothing, line, word, sought_of, text_at, end_at, on_from}
-use Rattle.values.specs.Strings.{behind_of, checked_at, said_checked, Fitting}
-use Rattle.values.specs.declared.string.Checked.{Checked}
-use Rattle.values.specs.declared.string.Checked.TheVariants as checked
+use Rattle.items.specs.declared.Token.{Token}
+use Rattle.values.specs.Strings.{behind_of, string_at, checked_at, said_checked, Fitting}
 use Rattle.items.proofs.Runs.{front-within}
 use Rattle.items.proofs.Spots.{TokenMet, token-met}
 use Rattle.items.proofs.Found.{token-part}
@@ -25,17 +26,17 @@ use Rattle.values.proofs.Blocks.{none-behind}
 
 -- ---- the string at a place: 5, 22, or what stands behind it
 module _ (n : ℕ) (ws ks block : List ℕ) (place : ℕ) where
-  at-beyond : leb (n + length (text_at block place)) (index_limit + 1) ≡ false → checked_at n ws ks block place ≡ checked.Refused 5 place
+  at-beyond : leb (n + length (text_at block place)) (index_limit + 1) ≡ false → checked_at n ws ks block place ≡ Err (refusal 5 place)
   unfolding checked_at
   at-beyond e = rw e
 
   module _ (e : leb (n + length (text_at block place)) (index_limit + 1) ≡ true) where
-    at-conflict : any_conflict ws ks [] (appended n (text_at block place)) ≡ true → checked_at n ws ks block place ≡ checked.Refused 22 place
+    at-conflict : any_conflict ws ks [] (appended n (text_at block place)) ≡ true → checked_at n ws ks block place ≡ Err (refusal 22 place)
     unfolding checked_at
     at-conflict f = rw (e, f)
 
     at-behind : any_conflict ws ks [] (appended n (text_at block place)) ≡ false
-        → checked_at n ws ks block place ≡ behind_of place (end_at block place) (sought_of (on_from block (end_at block place)))
+        → checked_at n ws ks block place ≡ behind_of (string_at block place) (sought_of (on_from block (end_at block place)))
     unfolding checked_at
     at-behind f = rw (e, f)
 
@@ -54,7 +55,7 @@ module _ (block : List ℕ) (place end : ℕ) (is : end ≡ end_at block place) 
     fits-is : fits ≡ leb (n + length (text_at block place)) (index_limit + 1)
     fits-is = e ∙ ap (λ (m : ℕ). leb (n + m) (index_limit + 1)) count-is
 
-    pub is-beyond : not fits ≡ true → checked.Refused 5 place ≡ checked_at n ws ks block place
+    pub is-beyond : not fits ≡ true → Err (refusal 5 place) ≡ checked_at n ws ks block place
     is-beyond f = sym (at-beyond n ws ks block place (sym fits-is ∙ not-true fits f))
 
     module _ (f : not fits ≡ false) where
@@ -68,13 +69,13 @@ module _ (block : List ℕ) (place end : ℕ) (is : end ≡ end_at block place) 
         found-is : found ≡ any_conflict ws ks [] (appended n (text_at block place))
         found-is = g ∙ ap (λ (l : List ℕ). any_conflict ws ks [] (appended n l)) text-is
 
-        pub is-conflict : found ≡ true → checked.Refused 22 place ≡ checked_at n ws ks block place
+        pub is-conflict : found ≡ true → Err (refusal 22 place) ≡ checked_at n ws ks block place
         is-conflict h = sym (at-conflict n ws ks block place does-fit (sym found-is ∙ h))
 
-        pub is-behind : found ≡ false → (r : Checked) → r ≡ behind_of place end (sought_of (on_from block end))
+        pub is-behind : found ≡ false → (r : Result (Option Token) Refusal) → r ≡ behind_of (record { place = place; end = end }) (sought_of (on_from block end))
             → r ≡ checked_at n ws ks block place
         is-behind h r k =
-            k ∙ ap (λ (m : ℕ). behind_of place m (sought_of (on_from block m))) is
+            k ∙ ap (λ (m : ℕ). behind_of (record { place = place; end = m }) (sought_of (on_from block m))) is
             ∙ sym (at-behind n ws ks block place does-fit (sym found-is ∙ h))
 
 -- ---- what the definition hears
@@ -109,7 +110,7 @@ module _ (n : ℕ) (ws ks : List ℕ) (p : ℕ) (s : List ℕ) (is : List Item) 
 -- behind a string from place to end: nothing more, or a line without `v`
 behind-says :
     (n : ℕ) (ws ks block : List ℕ) (place end : ℕ) (is : List Item) → ((p : ℕ) → sought_of is ≡ word p → ⊥) →
-    said_checked n block (behind_of place end (sought_of is))
+    said_checked n block (behind_of (record { place = place; end = end }) (sought_of is))
     ≡ hear ZerosAndOnes n ws ks (appended n (take (end - place) (drop place block))) is
 unfolding hear
 behind-says n ws ks block place end [] none = refl
@@ -117,7 +118,7 @@ behind-says n ws ks block place end (untagged p ∷ is) none = refl
 behind-says n ws ks block place end (token p s ∷ is) none = absurd (none p refl)
 
 behind-fits : (n m : ℕ) (place end : ℕ) (f : Found) → place < end → end ≤ m → n + (end - place) ≤ index_limit + 1
-    → Fitting (behind_of place end f) n m
+    → Fitting (behind_of (record { place = place; end = end }) f) n m
 behind-fits n m place end nothing g h i = (g, h, i)
 behind-fits n m place end (line p) g h i = tt
 behind-fits n m place end (word p) g h i = tt
@@ -169,6 +170,6 @@ module _ (n : ℕ) (ws ks block : List ℕ) (form : form_of block ≡ ZerosAndOn
           rw (at-behind n ws ks block place e f)
           (behind-fits n (length block) place (place + length text) (sought_of items) (omega (arith, here.some)) here.fits (omega arith))
 
-  pub met-answer : (r : Checked) → r ≡ checked_at n ws ks block place
+  pub met-answer : (r : Result (Option Token) Refusal) → r ≡ checked_at n ws ks block place
       → (said_checked n block r ≡ hear ZerosAndOnes n ws ks [] (items_from front 0 block)) × Fitting r n (length block)
   met-answer r e = (ap (said_checked n block) e ∙ met-says, rw e met-fits)

@@ -14,7 +14,6 @@ ghost use Rattle.tokens.specs.Said.{form_by};
 ghost use Rattle.values.specs.Reads.{ReadsValues};
 
 use definitions::{Form, Refusal};
-use string::Checked;
 
 fn refused(number: u8, place: u64) -> Result<usize, Refusal>
     ensures { said_length result ≡ refused (refusal number place) }
@@ -77,21 +76,21 @@ fn read_string(
     ensures { ReadsValues block.now kept values.old known.old result values.new known.new }
 {
     match string::check(block, kept, values, known) {
-        Checked::Refused { number, place } => refused(number, place as u64),
-        Checked::Empty => {
+        Err(found) => refused(found.number, found.place),
+        Ok(None) => {
             let needed = words_for(kept);
             if !has_words(needed, values, known) {
                 return refused(12, needed);
             }
             Ok(kept as usize)
         }
-        Checked::String { place, end } => {
-            let after = kept + (end - place) as u64;
+        Ok(Some(string)) => {
+            let after = kept + (string.end - string.place) as u64;
             let needed = words_for(after);
             if !has_words(needed, values, known) {
                 return refused(12, needed);
             }
-            string::append(&block[place..end], kept, values, known);
+            string::append(&block[string.place..string.end], kept, values, known);
             Ok(after as usize)
         }
     }

@@ -9,16 +9,9 @@ ghost use Rattle.items.specs.Items.{sought_of, end_at, on_from};
 ghost use Rattle.values.specs.Strings.{behind_of, checked_at, said_checked, Fitting};
 
 use bits::{is_otherwise, make_true};
-use items::{NextItem, next_item};
+use definitions::Refusal;
+use items::{Token, Untagged, next_item};
 use literals::{Lit, Var};
-
-// 20, 5 or 22; no string; or where it stands.
-#[derive(Drop)]
-pub(crate) enum Checked {
-    Refused { number: u8, place: usize },
-    Empty,
-    String { place: usize, end: usize },
-}
 
 // One more than the greatest index: "variable index: 1,073,741,823"
 const VARIABLES: u64 = 1_073_741_824;
@@ -27,10 +20,7 @@ const VARIABLES: u64 = 1_073_741_824;
 pub(crate) fn fits(kept: u64, count: usize) -> bool
     ensures { result ≡ leb (kept + count) (index_limit + 1) }
 {
-    if kept > VARIABLES {
-        return false;
-    }
-    count as u64 <= VARIABLES - kept
+    kept <= VARIABLES && count as u64 <= VARIABLES - kept
 }
 
 // The literal that a digit of the string makes true: `0` the negated one.
@@ -47,14 +37,10 @@ pub(crate) fn string_conflicts(text: &[u8], kept: u64, values: &[u64], known: &[
     requires { kept + length text.now ≤ index_limit + 1 }
     ensures { result ≡ any_conflict values.now known.now [] (appended kept text.now) }
 {
-    let mut i: usize = 0;
-    while i < text.len() {
-        let digit = text[i];
-        let literal = literal_at(kept + i as u64, digit);
-        if is_otherwise(literal, values, known) {
+    for (i, &digit) in text.iter().enumerate() {
+        if is_otherwise(literal_at(kept + i as u64, digit), values, known) {
             return true;
         }
-        i += 1;
     }
     false
 }
@@ -64,70 +50,75 @@ pub(crate) fn append(text: &[u8], kept: u64, values: &mut [u64], known: &mut [u6
     ensures values { values.new ≡ valued (appended kept text.now) values.old }
     ensures known { known.new ≡ marked (appended kept text.now) known.old }
 {
-    let mut i: usize = 0;
-    while i < text.len() {
-        let digit = text[i];
-        let literal = literal_at(kept + i as u64, digit);
-        make_true(literal, values, known);
-        i += 1;
+    for (i, &digit) in text.iter().enumerate() {
+        make_true(literal_at(kept + i as u64, digit), values, known);
     }
 }
 
 // What stands behind the string: nothing, or a line without `v`. Another token does not, since the block has one string
 // only.
-fn check_behind(block: &[u8], place: usize, end: usize) -> Checked
-    ensures { result ≡ behind_of place end (sought_of (on_from block.now end)) }
+fn check_behind(block: &[u8], string: Token) -> Result<Option<Token>, Refusal>
+    ensures { result ≡ behind_of string (sought_of (on_from block.now string.end)) }
 {
-    match next_item(block, end, false) {
-        NextItem::End => Checked::String { place, end },
-        NextItem::Untagged(line) => Checked::Refused {
-            number: 20,
-            place: line,
-        },
-        NextItem::Token {
-            place: token,
-            end: _,
-        } => Checked::Refused {
+    match next_item(block, string.end, false) {
+        Ok(None) => Ok(Some(string)),
+        Ok(Some(token)) => Err(Refusal {
             number: 21,
-            place: token,
-        },
+            place: token.place as u64,
+        }),
+        Err(Untagged(line)) => Err(Refusal {
+            number: 20,
+            place: line as u64,
+        }),
     }
 }
 
-// The string from `place` to `end`: 5, 22, and what stands behind it.
+// The string: 5, 22, and what stands behind it.
 fn check_at(
     block: &[u8],
-    place: usize,
-    end: usize,
+    string: Token,
     kept: u64,
     values: &[u64],
     known: &[u64],
-) -> Checked
-    requires within { place ≤ length block.now }
-    requires ends { end ≡ end_at block.now place }
-    ensures { result ≡ checked_at kept values.now known.now block.now place }
+) -> Result<Option<Token>, Refusal>
+    requires within { string.place ≤ length block.now }
+    requires ends { string.end ≡ end_at block.now string.place }
+    ensures { result ≡ checked_at kept values.now known.now block.now string.place }
 {
+    let Token { place, end } = string;
     if !fits(kept, end - place) {
-        return Checked::Refused { number: 5, place };
+        return Err(Refusal {
+            number: 5,
+            place: place as u64,
+        });
     }
     if string_conflicts(&block[place..end], kept, values, known) {
-        return Checked::Refused { number: 22, place };
+        return Err(Refusal {
+            number: 22,
+            place: place as u64,
+        });
     }
-    check_behind(block, place, end)
+    check_behind(block, string)
 }
 
-pub(crate) fn check(block: &[u8], kept: u64, values: &[u64], known: &[u64]) -> Checked
+// Where the string stands, or none; or 20, 5 or 22.
+pub(crate) fn check(
+    block: &[u8],
+    kept: u64,
+    values: &[u64],
+    known: &[u64],
+) -> Result<Option<Token>, Refusal>
     requires some { 0 < length block.now }
     requires form { form_of block.now ≡ ZerosAndOnes }
     ensures result_value { said_checked kept block.now result ≡ hear ZerosAndOnes kept values.now known.now [] (items_from front 0 block.now) }
     ensures fits { Fitting result kept (length block.now) }
 {
     match next_item(block, 0, true) {
-        NextItem::End => Checked::Empty,
-        NextItem::Untagged(line) => Checked::Refused {
+        Ok(None) => Ok(None),
+        Ok(Some(string)) => check_at(block, string, kept, values, known),
+        Err(Untagged(line)) => Err(Refusal {
             number: 20,
-            place: line,
-        },
-        NextItem::Token { place, end } => check_at(block, place, end, kept, values, known),
+            place: line as u64,
+        }),
     }
 }

@@ -3,6 +3,7 @@ use Prim.Native.Nat.{ℕ, ◌+◌, ◌≤◌}
 use mathlib.Core.Path.{◌≡◌, ap, ◌∙◌}
 use mathlib.Core.List.{List}
 use native.Mathlib.Omega.{arith}
+use borrow.Author.Tests.{ne_eqb}
 use lib.ListN.{length, drop}
 use Rattle.definitions.specs.Values.{is_white, is_bit, front_of}
 use Rattle.definitions.proofs.Parts.{part-is}
@@ -74,10 +75,10 @@ pub returns-then-end-tail : goal.returns-then-end-tail
 returns-then-end-tail c = string-not _ _ _ _ (trimmed (goal.at.returns-then-end-tail c).After-white_run-tail) c.if-end-tail.true
 
 pub returns-then-count-ne1 : goal.returns-then-count-ne1
-returns-then-count-ne1 c = string-more _ _ _ _ (trimmed (goal.at.returns-then-count-ne1 c).After-white_run-tail) c.if-end-tail.false c.if-count-ne1.true
+returns-then-count-ne1 c = rw (ne_eqb c.bit_run-count.result 1 c.if-count-ne1.true) (string-more _ _ _ _ (trimmed (goal.at.returns-then-count-ne1 c).After-white_run-tail) c.if-end-tail.false c.if-count-ne1.true)
 
 pub bounds-s-start : goal.bounds-s-start
 bounds-s-start c = omega (arith, end-within (goal.at.bounds-s-start c).After-bit_run-count)
 
-pub returns : goal.returns
-returns c = string-one _ _ _ _ (trimmed (goal.at.returns c).After-white_run-tail) c.if-end-tail.false c.if-count-ne1.false
+pub returns-else-count-ne1 : goal.returns-else-count-ne1
+returns-else-count-ne1 c = string-one _ _ _ _ (trimmed (goal.at.returns-else-count-ne1 c).After-white_run-tail) c.if-end-tail.false c.if-count-ne1.false

@@ -1,52 +1,33 @@
--- `heard::hear` meets its contract: the first conflict, the refusal that stopped the first walk, or the length
--- (proofs/Hearing.antt). Assumes nothing.
-use Prim.Native.Nat.{ℕ}
-use mathlib.Core.Path.{sym, ap, ◌∙◌}
-use mathlib.Core.Bool.{Bool}
-use mathlib.Core.List.{List}
-use native.Mathlib.Omega.{arith}
-use Rattle.definitions.specs.Table.{accepted}
+-- `heard::hear` meets its contract: the first conflict, or what the first walk answered (proofs/Hearing.antt). Assumes
+-- nothing.
+use mathlib.Core.Path.{◌≡◌, sym, ap, ◌∙◌}
+use lib.ListN.{length}
+use Rattle.definitions.specs.Answers.{said_length}
 use Rattle.definitions.specs.Values.{new_length}
-use Rattle.heard.proofs.Hearing.{found_below, found-length, found-conflict, found-stop, found_all}
+use Rattle.heard.proofs.Hearing.{end_by, found_below, found-conflict, found_fine}
 use Rattle.heard.proofs.hear.Goals as goal
-use Rattle.heard.proofs.hear.Goals.{After-survey-found, Start}
+use Rattle.heard.proofs.hear.Goals.{Joined-surveyed, in-Ok, in-Err}
 
-module _ (c : After-survey-found) where
-  abbrev start : Start
-  start = (goal.at.After-survey-found c).Start
+module _ (c : Joined-surveyed) where
+  same : c.match-surveyed.surveyed ≡ c.survey-surveyed.result
+  same = elim c.match-surveyed.branch [ in-Ok w ↦ w.surveyed-is | in-Err w ↦ w.surveyed-is ∙ sym w.in-Err.is ]
 
-  abbrev text : List ℕ
-  text = start.args.block.now
-
-  abbrev named : Bool
-  named = start.args.named
-
-  abbrev kept : ℕ
-  kept = start.args.kept
-
-  abbrev ws : List ℕ
-  ws = start.args.values.now
-
-  abbrev ks : List ℕ
-  ks = start.args.known.now
+  ends : c.match-surveyed.end ≡ end_by (length c.args.block.now) c.survey-surveyed.result
+  ends = elim c.match-surveyed.branch [
+    | in-Ok w ↦ w.end-is ∙ sym (ap (end_by (length c.args.block.now)) w.in-Ok.is)
+    | in-Err w ↦ w.end-is ∙ sym (ap (end_by (length c.args.block.now)) w.in-Err.is)
+  ]
 
 pub first_conflict-conflict-requires : goal.first_conflict-conflict-requires
-first_conflict-conflict-requires c = found_below (text c) (named c) (kept c) (ws c) (ks c) _ c.survey-found.ensures
+first_conflict-conflict-requires c = found_below _ _ c.args.kept c.args.values.now c.args.known.now _ c.survey-surveyed.ensures _ (ends c)
 
 pub returns-then-conflict-end : goal.returns-then-conflict-end
 returns-then-conflict-end c =
-    sym (ap (new_length (kept (goal.at.returns-then-conflict-end c).After-survey-found))
-    (found-conflict (text (goal.at.returns-then-conflict-end c).After-survey-found) (named (goal.at.returns-then-conflict-end c).After-survey-found) (kept (goal.at.returns-then-conflict-end c).After-survey-found) (ws (goal.at.returns-then-conflict-end c).After-survey-found) (ks (goal.at.returns-then-conflict-end c).After-survey-found) _ c.survey-found.ensures _ c.first_conflict-conflict.ensures c.if-conflict-end.true))
-
-pub returns-then-found-ne0 : goal.returns-then-found-ne0
-returns-then-found-ne0 c =
-    sym (ap (new_length (kept (goal.at.returns-then-found-ne0 c).After-survey-found))
-    (found-stop (text (goal.at.returns-then-found-ne0 c).After-survey-found) (named (goal.at.returns-then-found-ne0 c).After-survey-found) (kept (goal.at.returns-then-found-ne0 c).After-survey-found) (ws (goal.at.returns-then-found-ne0 c).After-survey-found) (ks (goal.at.returns-then-found-ne0 c).After-survey-found) _ c.survey-found.ensures _ c.first_conflict-conflict.ensures
-    (omega (arith, c.if-conflict-end.false)) c.if-found-ne0.true))
+    sym (ap (new_length c.args.kept)
+    (found-conflict _ _ _ _ _ _ c.survey-surveyed.ensures _ (ends (goal.at.returns-then-conflict-end c).Joined-surveyed) _ c.first_conflict-conflict.ensures c.if-conflict-end.true))
 
 pub returns : goal.returns
 returns c =
-    ap accepted (found-length (text (goal.at.returns c).After-survey-found) (named (goal.at.returns c).After-survey-found) (kept (goal.at.returns c).After-survey-found) (ws (goal.at.returns c).After-survey-found) (ks (goal.at.returns c).After-survey-found) _ c.survey-found.ensures)
-    ∙ sym (ap (new_length (kept (goal.at.returns c).After-survey-found))
-    (found_all (text (goal.at.returns c).After-survey-found) (named (goal.at.returns c).After-survey-found) (kept (goal.at.returns c).After-survey-found) (ws (goal.at.returns c).After-survey-found) (ks (goal.at.returns c).After-survey-found) _ c.survey-found.ensures _ c.first_conflict-conflict.ensures
-    (omega (arith, c.if-conflict-end.false)) c.if-found-ne0.false))
+    let j = (goal.at.returns c).Joined-surveyed in
+    ap said_length (same j)
+    ∙ found_fine _ _ _ _ _ _ c.survey-surveyed.ensures _ (ends j) _ c.first_conflict-conflict.ensures c.if-conflict-end.false

@@ -1,16 +1,13 @@
 -- `items::seek` meets its contract. The loop's invariant: what is sought from the start on is what is sought from `at`
--- on; the measure is what is left of the length. Assumes nothing.
+-- on. Assumes nothing.
 use Prim.Native.Nat.{◌<◌}
 use mathlib.Core.Path.{sym, ◌∙◌}
 use native.Mathlib.Omega.{arith}
 use lib.ListN.{length}
-use Rattle.items.proofs.Spots.{seeking-none, seeking-end, seeking-v, seeking-lf, seeking-white, seeking-line}
+use Rattle.items.proofs.Spots.{seeking-end, seeking-v, seeking-lf, seeking-white, seeking-line}
 use Rattle.items.proofs.Spots.{seeking-token}
 use Rattle.items.proofs.seek.Goals as goal
 use Rattle.items.proofs.seek.Goals.{then-opens+else-b-ne118, else-opens+then-b-eq10, else-opens+else-b-eq10+else-not-is_white}
-
-pub loop-at-init : goal.loop-at-init
-loop-at-init c = seeking-none _ _ _
 
 pub returns-then-b-ne118 : goal.returns-then-b-ne118
 returns-then-b-ne118 c = seeking-line _ _ _ _ _ c.loop-at.invariant (omega arith) c.if-opens.true c.if-b-ne118.true

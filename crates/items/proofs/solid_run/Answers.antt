@@ -1,23 +1,15 @@
--- `items::solid_run` meets its contract. The loop's invariant: i bytes are passed, none of them white; the measure is
--- what is left of the length. Assumes nothing.
-use mathlib.Core.Path.{ap, sym, ◌∙◌}
-use mathlib.Core.Bool.{not}
-use native.Mathlib.Omega.{arith}
-use Rattle.items.proofs.Runs.{passed_none, passed-all, passed-end, passed-more}
+-- `items::solid_run` meets its contract: the library takes the bytes at the front that are not white. Assumes nothing.
+use Rattle.std.proofs.Common.{length, ap, ◌∙◌, rules, tests}
+use Rattle.std.proofs.lemmas.Iterator.{YieldsList-from_slice}
+use Rattle.std.proofs.lemmas.Iterator.Search.{YieldsList-from_take_while}
+use Rattle.std.proofs.lemmas.Iterator.Consumers.{count_from_yields_List}
+use Rattle.definitions.specs.Values.{is_solid}
+use Rattle.items.proofs.Runs.{while-front}
 use Rattle.items.proofs.solid_run.Goals as goal
 
-pub loop-i-init : goal.loop-i-init
-loop-i-init c = passed_none _ _
-
-pub returns-then-is_white : goal.returns-then-is_white
-returns-then-is_white c =
-    passed-end _ _ _ c.loop-i.invariant (omega arith)
-    (ap not (sym c.is_white.ensures ∙ c.if-is_white.true))
-
-pub loop-i-preserved : goal.loop-i-preserved
-loop-i-preserved c =
-    passed-more _ _ _ c.loop-i.invariant (omega arith)
-    (ap not (sym c.is_white.ensures ∙ c.if-is_white.false))
-
 pub returns : goal.returns
-returns c = passed-all _ _ _ c.loop-i.invariant (omega arith)
+returns c =
+    let s = c.args.s.now in
+    count_from_yields_List c.take_while.result _ c.count.ensures.ran
+    (YieldsList-from_take_while _ is_solid (YieldsList-from_slice s cc) c.take_while.ensures.closure c.take_while.ensures.done (λ x b q k. search (rules, tests)))
+    ∙ ap length (while-front is_solid s)

@@ -22,8 +22,8 @@ pub record Left (block : List ℕ) (named : Bool) (ws ks : List ℕ) (at : ℕ) 
       ≡ valued (codes_from named (items_from front 0 block)) ws
   pub known : marked (codes_from named (items_from (spot_of opens) at (drop at block))) ks' ≡ marked (codes_from named (items_from front 0 block)) ks
 
-abbrev pub invariant-loop-end : goal.invariant-loop-end
-invariant-loop-end l = Left l.block l.named l.initial.values l.initial.known l.at l.opens l.values l.known
+abbrev pub invariant-loop-said : goal.invariant-loop-said
+invariant-loop-said l = Left l.block l.named l.initial.values l.initial.known l.at l.opens l.values l.known
 
-abbrev pub decreases-loop-end : goal.decreases-loop-end
-decreases-loop-end l = length l.block - l.at
+abbrev pub decreases-loop-said : goal.decreases-loop-said
+decreases-loop-said l = length l.block - l.at

@@ -9,7 +9,8 @@ use Rattle.heard.proofs.Marking.{clash-otherwise, clash-marked}
 use Rattle.heard.proofs.conflicts.clashes.Goals as goal
 
 pub returns-then-is_otherwise : goal.returns-then-is_otherwise
-returns-then-is_otherwise c = clash-otherwise _ _ _ _ _ (sym c.is_otherwise.ensures ∙ c.if-is_otherwise.true)
+returns-then-is_otherwise c =
+    c.if-is_otherwise.true ∙ clash-otherwise _ _ _ _ _ (sym c.is_otherwise.ensures ∙ c.if-is_otherwise.true)
 
 pub overflow_sub-opposite : goal.overflow_sub-opposite
 overflow_sub-opposite c =
@@ -20,8 +21,8 @@ overflow_sub-opposite c =
       opposite-index c.args.literal.0,
     )
 
-pub returns : goal.returns
-returns c =
+pub returns-else-is_otherwise : goal.returns-else-is_otherwise
+returns-else-is_otherwise c =
     c.bit_at.ensures
     ∙ ap (λ (o : ℕ). assigned c.args.marks.now (o - 2 * c.args.base))
     (c.code-opposite.ensures ∙ c.negated.ensures)

@@ -18,7 +18,7 @@ loop-base-smaller c =
 pub loop-base-preserved : goal.loop-base-preserved
 loop-base-preserved c =
     searched-on _ _ _ _ _ c.requires _ _ c.loop-base.invariant (omega (arith, c.loop-base-test.true)) _
-    c.walk_for-w.ensures _ c.earlier-found.ensures
+    c.walk_for-w.ensures _ c.min-found.ensures
 
 pub returns : goal.returns
 returns c =

@@ -5,9 +5,9 @@ use lib.ListN.{length}
 use Rattle.heard.proofs.Marking.{Walk}
 use Rattle.heard.proofs.conflicts.mark_window.Given as goal
 
-abbrev pub invariant-loop-found : goal.invariant-loop-found
-invariant-loop-found l =
+abbrev pub invariant-loop-said : goal.invariant-loop-said
+invariant-loop-said l =
     Walk l.named l.values l.known l.block l.end l.base l.marks l.found l.at l.opens
 
-abbrev pub decreases-loop-found : goal.decreases-loop-found
-decreases-loop-found l = length l.block - l.at
+abbrev pub decreases-loop-said : goal.decreases-loop-said
+decreases-loop-said l = length l.block - l.at

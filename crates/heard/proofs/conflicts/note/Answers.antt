@@ -3,7 +3,7 @@ use Rattle.heard.proofs.Marking.{note-behind, note-conflict}
 use Rattle.heard.proofs.conflicts.note.Goals as goal
 
 pub returns-in-Behind : goal.returns-in-Behind
-returns-in-Behind c = note-behind _ _ _ _ _ c.in-Behind.is c.least.ensures
+returns-in-Behind c = note-behind _ _ _ _ _ c.in-Behind.is c.min.ensures
 
 pub returns-in-Conflict : goal.returns-in-Conflict
-returns-in-Conflict c = note-conflict _ _ _ _ c.in-Conflict.is c.earlier.ensures
+returns-in-Conflict c = note-conflict _ _ _ _ c.in-Conflict.is c.min-in-Conflict.ensures

@@ -1,77 +1,75 @@
 -- `survey` meets its contract: what is left of the walk gives the whole answer (proofs/Surveying.antt). Assumes
 -- nothing.
-use Prim.Native.Nat.{ℕ}
-use mathlib.Core.Path.{◌≡◌, refl, sym, ap, subst, ◌∙◌}
-use mathlib.Core.Bool.{Bool}
+use mathlib.Core.Path.{◌≡◌, refl, sym, ap, ◌∙◌}
 use mathlib.Core.List.{List}
 use native.Mathlib.Omega.{arith}
 use lib.ListN.{length, drop}
+use Rattle.std.specs.Prelude.{Result, Option, Some, Ok}
+use Rattle.std.proofs.lemmas.Result.{err_from_is_err_and}
 use Rattle.definitions.specs.Values.{Item, items_from}
+use Rattle.definitions.specs.declared.Refusal.{Refusal}
 use Rattle.items.specs.Items.{spot_of}
-use Rattle.heard.specs.Surveys.{survey_of}
-use Rattle.tokens.specs.declared.next.Next.{Next}
+use Rattle.tokens.specs.declared.next.Said.{Said}
 use Rattle.settling.proofs.TokenSteps.{step_of, said_next, Ahead, next-step}
 use Rattle.heard.proofs.Surveying.{survey-ends, survey-refuses, survey-nothing, survey-says}
 use Rattle.heard.proofs.survey.survey.Goals as goal
-use Rattle.heard.proofs.survey.survey.Goals.{After-next_token, Start}
+use Rattle.heard.proofs.survey.survey.Goals.{After-next_token, In-Some}
 
-ahead : (r s : Next) (from n : ℕ) → Ahead r from n → r ≡ s → Ahead s from n
-ahead r s from n h q = subst (λ (x : Next). Ahead x from n) q h
-
-longer : (named : Bool) (end n m : ℕ) (is : List Item) → n ≡ m → survey_of named end n is ≡ survey_of named end m is
-longer named end n m is e = ap (λ (k : ℕ). survey_of named end k is) e
-
-module _ (d : After-next_token) where
-  abbrev start : Start
-  start = (goal.at.After-next_token d).Start
-
+-- the next token, as it is met
+module _ (c : After-next_token) where
   abbrev items : List Item
-  items = items_from (spot_of d.loop-number.opens) d.loop-number.at (drop d.loop-number.at start.args.block.now)
+  items = items_from (spot_of c.loop-said.opens) c.loop-said.at (drop c.loop-said.at c.args.block.now)
 
-  taken : (said_next start.args.block.now d.next_token.result ≡ step_of start.args.named items)
-      × Ahead d.next_token.result d.loop-number.at (length start.args.block.now)
-  taken =
-      next-step start.args.named start.args.block.now d.loop-number.opens d.loop-number.at d.next_token.result
-      d.next_token.ensures
+  step : (r : Result (Option Said) Refusal) → c.next_token.result ≡ r → step_of c.args.named items ≡ said_next c.args.block.now r
+  step r e =
+      sym (next-step c.args.named c.args.block.now c.loop-said.opens c.loop-said.at c.next_token.result c.next_token.ensures).0
+      ∙ ap (said_next c.args.block.now) e
 
-  -- the next token that was met is a step of the items
-  step : (s : Next) → d.next_token.result ≡ s → step_of start.args.named items ≡ said_next start.args.block.now s
-  step s q = sym taken.0 ∙ ap (said_next start.args.block.now) q
+-- a token
+module _ (c : In-Some) where
+  abbrev met : After-next_token
+  met = (goal.at.In-Some c).After-next_token
 
-pub loop-number-init : goal.loop-number-init
-loop-number-init c = record { within = omega arith; rest = refl }
+  taken : step_of c.args.named (items met) ≡ said_next c.args.block.now (Ok (Some c.in-Some.said))
+  taken = step met _ (rw c.in-Some.is at c.in_ok-said.was)
 
-pub returns-in-End : goal.returns-in-End
-returns-in-End c =
-    survey-ends _ _ _ _ (step (goal.at.returns-in-End c).After-next_token _ c.in-End.is) ∙ c.loop-number.invariant.rest
+  ahead : Ahead (Ok (Some c.in-Some.said)) c.loop-said.at (length c.args.block.now)
+  ahead =
+      (next-step c.args.named c.args.block.now c.loop-said.opens c.loop-said.at (Ok (Some c.in-Some.said))
+      (rw c.in-Some.is at c.in_ok-said.ensures)).1
 
-pub returns-in-Refused : goal.returns-in-Refused
-returns-in-Refused c =
-    survey-refuses _ _ _ _ _ _ (step (goal.at.returns-in-Refused c).After-next_token _ c.in-Refused.is) ∙ c.loop-number.invariant.rest
+pub loop-said-init : goal.loop-said-init
+loop-said-init c = record { within = omega arith; rest = refl }
 
-pub loop-number-smaller-in-Nothing : goal.loop-number-smaller-in-Nothing
-loop-number-smaller-in-Nothing c =
-    let a = ahead _ _ _ _ (taken (goal.at.loop-number-smaller-in-Nothing c).After-next_token).1 c.in-Nothing.is in
-    omega (arith, a.0, a.1, a.2)
+pub loop-said-smaller : goal.loop-said-smaller
+loop-said-smaller c = let a = ahead (goal.at.loop-said-smaller c).In-Some in omega (arith, a.0, a.1, a.2)
 
-pub loop-number-preserved-in-Nothing : goal.loop-number-preserved-in-Nothing
-loop-number-preserved-in-Nothing c =
-    let a = ahead _ _ _ _ (taken (goal.at.loop-number-preserved-in-Nothing c).After-next_token).1 c.in-Nothing.is in
+pub loop-said-smaller-in-Some-literal : goal.loop-said-smaller-in-Some-literal
+loop-said-smaller-in-Some-literal c =
+    let a = ahead (goal.at.loop-said-smaller-in-Some-literal c).In-Some in omega (arith, a.0, a.1, a.2)
+
+pub loop-said-preserved : goal.loop-said-preserved
+loop-said-preserved c =
+    let e = (rw c.in_default-literal.is at (taken (goal.at.loop-said-preserved c).In-Some)) in
     record {
-      within = a.2;
-      rest = sym (survey-nothing _ _ _ _ _ _ (step (goal.at.loop-number-preserved-in-Nothing c).After-next_token _ c.in-Nothing.is)) ∙ c.loop-number.invariant.rest;
+      within = (ahead (goal.at.loop-said-preserved c).In-Some).2;
+      rest = sym (survey-nothing _ _ _ _ _ e) ∙ c.loop-said.invariant.rest;
     }
 
-pub loop-number-smaller : goal.loop-number-smaller
-loop-number-smaller c =
-    let a = ahead _ _ _ _ (taken (goal.at.loop-number-smaller c).After-next_token).1 c.in-Says.is in
-    omega (arith, a.0, a.1, a.2)
-
-pub loop-number-preserved : goal.loop-number-preserved
-loop-number-preserved c =
-    let a = ahead _ _ _ _ (taken (goal.at.loop-number-preserved c).After-next_token).1 c.in-Says.is in
+pub loop-said-preserved-in-Some-literal : goal.loop-said-preserved-in-Some-literal
+loop-said-preserved-in-Some-literal c =
+    let e = (rw c.in-Some-literal.is at (taken (goal.at.loop-said-preserved-in-Some-literal c).In-Some)) in
     record {
-      within = a.2;
-      rest = longer _ _ _ _ _ c.past-length.ensures ∙ sym (survey-says _ _ _ _ _ _ _ (step (goal.at.loop-number-preserved c).After-next_token _ c.in-Says.is))
-          ∙ c.loop-number.invariant.rest;
+      within = (ahead (goal.at.loop-said-preserved-in-Some-literal c).In-Some).2;
+      rest = rw c.past-length.ensures (sym (survey-says _ _ _ _ _ _ e) ∙ c.loop-said.invariant.rest);
     }
+
+pub returns-in_err-said : goal.returns-in_err-said
+returns-in_err-said c =
+    let p = err_from_is_err_and c.from_residual.result c.from_residual.ensures.1 in
+    rw (p.1, p.2)
+    (survey-refuses _ _ _ _ _ (step (goal.at.returns-in_err-said c).After-next_token _ c.in_err-said.was) ∙ c.loop-said.invariant.rest)
+
+pub returns : goal.returns
+returns c =
+    survey-ends _ _ _ (step (goal.at.returns c).After-next_token _ (rw c.in_default.is at c.in_ok-said.was)) ∙ c.loop-said.invariant.rest

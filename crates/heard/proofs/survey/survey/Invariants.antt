@@ -13,11 +13,11 @@ use Rattle.heard.proofs.survey.survey.Given as goal
 -- what is left of the walk gives the whole answer
 pub record Left (block : List ℕ) (named : Bool) (kept at : ℕ) (opens : Bool) (n : ℕ) : Type 0 where
   pub within : at ≤ length block
-  pub rest : survey_of named (length block) n (items_from (spot_of opens) at (drop at block))
-      ≡ survey_of named (length block) kept (items_from front 0 block)
+  pub rest : survey_of named n (items_from (spot_of opens) at (drop at block))
+      ≡ survey_of named kept (items_from front 0 block)
 
-abbrev pub invariant-loop-number : goal.invariant-loop-number
-invariant-loop-number l = Left l.block l.named l.kept l.at l.opens l.length
+abbrev pub invariant-loop-said : goal.invariant-loop-said
+invariant-loop-said l = Left l.block l.named l.kept l.at l.opens l.length
 
-abbrev pub decreases-loop-number : goal.decreases-loop-number
-decreases-loop-number l = length l.block - l.at
+abbrev pub decreases-loop-said : goal.decreases-loop-said
+decreases-loop-said l = length l.block - l.at

@@ -1,37 +1,36 @@
 -- `tokens::named_variable` meets its contract: an `x` is one byte, and the digits behind it are the rest; a number that
 -- stopped at the cap says the same. Assumes nothing.
-use mathlib.Core.Path.{◌≡◌, sym, ap, ◌∙◌}
-use lib.ListN.{drop}
+use mathlib.Core.Path.{◌≡◌, ap, ◌∙◌}
+use native.Mathlib.Omega.{arith}
+use Prim.Native.Nat.{ℕ, ◌-◌}
+use lib.ListN.{length, get_or, take, drop}
+use Rattle.definitions.specs.Refusal.{Checked}
 use Rattle.definitions.specs.Table.{and_then}
 use Rattle.definitions.specs.Values.{whole_number, literal_for, named_variable}
 use Rattle.definitions.proofs.Parts.{part-is}
-use Rattle.tokens.specs.Said.{said_whole, capped}
-use Rattle.tokens.specs.declared.token.Whole.{Whole}
+use Rattle.tokens.specs.Said.{capped}
 use Rattle.tokens.proofs.Says.{capped-then, capped-literal, named-empty, named_other, named-x}
 use Rattle.tokens.proofs.token.named_variable.Goals as goal
-use Rattle.tokens.proofs.token.named_variable.Goals.{After-whole_number, Else-s-ne120}
+use Rattle.tokens.proofs.token.named_variable.Goals.{After-whole_number}
 
--- what the number behind the `(goal.at.After-whole_number c).Else-s-ne120` says, whether it stopped at the cap or not
-answer : (c : After-whole_number) (w : Whole) → c.whole_number.result ≡ w
-    → and_then (said_whole w) (literal_for c.args.negative)
-    ≡ named_variable c.args.negative
-    c.args.s.now
+-- what the number behind the `x` says, whether it stopped at the cap or not
+answer : (c : After-whole_number) (w : Checked ℕ) → w ≡ capped (whole_number (take (length c.args.s.now - 1) (drop 1 c.args.s.now)))
+    → and_then w (literal_for c.args.negative) ≡ named_variable c.args.negative c.args.s.now
 answer c w e =
-    let a = c.args in
-    let s = a.s.now in
-    capped-then (literal_for a.negative) (capped-literal a.negative) (said_whole w) (whole_number (drop 1 s))
-    (sym (ap said_whole e) ∙ c.whole_number.ensures ∙ ap (λ t. capped (whole_number t)) (part-is s 1))
-    ∙ named-x a.negative s c.if-s-eq0.false c.if-s-ne120.false
+    let s = c.args.s.now in
+    let x : get_or s 0 0 ≡ 120 = omega arith in
+    capped-then (literal_for c.args.negative) (capped-literal c.args.negative) w (whole_number (drop 1 s))
+    (e ∙ ap (λ t. capped (whole_number t)) (part-is s 1))
+    ∙ named-x c.args.negative s (λ z. omega arith) x
 
-pub returns-then-s-eq0 : goal.returns-then-s-eq0
-returns-then-s-eq0 c = named-empty _ _ c.if-s-eq0.true
+pub returns-in_default : goal.returns-in_default
+returns-in_default c = named-empty _ _ (omega arith)
 
-pub returns-then-s-ne120 : goal.returns-then-s-ne120
-returns-then-s-ne120 c = named_other _ _ c.if-s-eq0.false c.if-s-ne120.true
+pub returns-in_default-2 : goal.returns-in_default-2
+returns-in_default-2 c = named_other _ _ (λ z. omega arith) (λ z. omega arith)
 
-pub returns-in-Bad : goal.returns-in-Bad
-returns-in-Bad c = answer (goal.at.returns-in-Bad c).After-whole_number _ c.in-Bad.is
+pub returns-in-None : goal.returns-in-None
+returns-in-None c = answer (goal.at.returns-in-None c).After-whole_number _ c.in-None.ensures
 
-pub returns-in-Number : goal.returns-in-Number
-returns-in-Number c =
-    c.literal_for.ensures ∙ answer (goal.at.returns-in-Number c).After-whole_number _ c.in-Number.is
+pub returns-in-Some : goal.returns-in-Some
+returns-in-Some c = c.literal_for.ensures ∙ answer (goal.at.returns-in-Some c).After-whole_number _ c.in-Some.ensures

@@ -1,5 +1,5 @@
 -- `string::append` meets its contract. The loop's invariant: what the first i digits leave in both rows
--- (proofs/StringLaws.antt); the measure is what is left of the length. Assumes nothing.
+-- (proofs/StringLaws.antt). Assumes nothing.
 use native.Mathlib.Omega.{arith}
 use Rattle.values.proofs.StringLaws.{appended-none, appended-all, appended-lengths, appended-more}
 use Rattle.values.proofs.string.append.Goals as goal
@@ -10,7 +10,7 @@ loop-i-init c = appended-none _ _ _ _
 pub loop-i-preserved : goal.loop-i-preserved
 loop-i-preserved c =
     let l = c.loop-i in
-    appended-more _ _ _ _ _ _ _ l.invariant c.loop-i-test.true _ c.literal_at-literal.ensures _ _ c.make_true.ensures.values
+    appended-more _ _ _ _ _ _ _ l.invariant c.loop-i-test.true _ c.literal_at.ensures _ _ c.make_true.ensures.values
     c.make_true.ensures.known
 
 pub shape_of-values : goal.shape_of-values

@@ -1,12 +1,7 @@
 -- `string::append` meets its contract. The loop's invariant: what the first i digits leave in both rows
--- (proofs/StringLaws.antt); the measure is what is left of the length. Assumes nothing.
-use Prim.Native.Nat.{◌-◌}
-use lib.ListN.{length}
+-- (proofs/StringLaws.antt). Assumes nothing.
 use Rattle.values.proofs.StringLaws.{Appended}
 use Rattle.values.proofs.string.append.Given as goal
 
 abbrev pub invariant-loop-i : goal.invariant-loop-i
 invariant-loop-i l = Appended l.initial.values l.initial.known l.kept l.text l.values l.known l.i
-
-abbrev pub decreases-loop-i : goal.decreases-loop-i
-decreases-loop-i l = length l.text - l.i

@@ -11,8 +11,8 @@ use Rattle.values.proofs.string.check_at.Goals as goal
 use Rattle.values.proofs.string.check_at.Goals.{After-fits, Start}
 
 -- the string lies within the block
-within : (s : Start) → (s.args.place ≤ s.args.end) × (s.args.end ≤ length s.args.block.now)
-within s = end-within s.args.block.now s.args.place s.args.end s.requires.ends s.requires.within
+within : (s : Start) → (s.args.string.place ≤ s.args.string.end) × (s.args.string.end ≤ length s.args.block.now)
+within s = end-within s.args.block.now s.args.string.place s.args.string.end s.requires.ends s.requires.within
 
 abbrev start : After-fits → Start
 start c = (goal.at.After-fits c).Start

@@ -1,33 +1,15 @@
 -- `string::check_behind` meets its contract: what is met next behind the string. Assumes nothing.
-use mathlib.Core.Path.{◌≡◌, sym, ap, ◌∙◌}
-use Rattle.items.specs.Items.{Found, sought_of, on_from, item_by}
-use Rattle.items.specs.declared.NextItem.{NextItem}
+use mathlib.Core.Path.{ap}
 use Rattle.items.proofs.Found.{found-end, found-line, found-token}
 use Rattle.values.specs.Strings.{behind_of}
 use Rattle.values.proofs.string.check_behind.Goals as goal
-use Rattle.values.proofs.string.check_behind.Goals.{After-next_item, Start}
 
-module _ (c : After-next_item) where
-  abbrev start : Start
-  start = (goal.at.After-next_item c).Start
+pub returns-in-Ok-None : goal.returns-in-Ok-None
+returns-in-Ok-None c = ap (behind_of c.args.string) (found-end c.args.block.now _ (rw c.in-Ok-None.field-0-is at c.in-Ok-None.ensures))
 
-  abbrev behind : Found
-  behind = sought_of (on_from start.args.block.now start.args.end)
+pub returns-in-Ok-Some : goal.returns-in-Ok-Some
+returns-in-Ok-Some c =
+    ap (behind_of c.args.string) (found-token c.args.block.now _ c.in-Ok-Some.token (rw c.in-Ok-Some.field-0-is at c.in-Ok-Some.ensures)).0
 
-  -- the item that was met
-  met : (r : NextItem) → c.next_item.result ≡ r → r ≡ item_by start.args.block.now behind
-  met r e = sym e ∙ c.next_item.ensures
-
-  -- the answer by what is found
-  answer : (f : Found) → f ≡ behind
-      → behind_of start.args.place start.args.end f ≡ behind_of start.args.place start.args.end behind
-  answer f e = ap (behind_of start.args.place start.args.end) e
-
-pub returns-in-End : goal.returns-in-End
-returns-in-End c = answer (goal.at.returns-in-End c).After-next_item _ (found-end _ _ (met (goal.at.returns-in-End c).After-next_item _ c.in-End.is))
-
-pub returns-in-Untagged : goal.returns-in-Untagged
-returns-in-Untagged c = answer (goal.at.returns-in-Untagged c).After-next_item _ (found-line _ _ _ (met (goal.at.returns-in-Untagged c).After-next_item _ c.in-Untagged.is))
-
-pub returns-in-Token : goal.returns-in-Token
-returns-in-Token c = answer (goal.at.returns-in-Token c).After-next_item _ (found-token _ _ _ _ (met (goal.at.returns-in-Token c).After-next_item _ c.in-Token.is)).0
+pub returns-in-Err : goal.returns-in-Err
+returns-in-Err c = ap (behind_of c.args.string) (found-line c.args.block.now _ c.in-Err.field-0 c.in-Err.ensures)
