@@ -76,7 +76,7 @@ fn read_string(
     ensures { ReadsValues block.now kept values.old known.old result values.new known.new }
 {
     match string::check(block, kept, values, known) {
-        Err(found) => refused(found.number, found.place),
+        Err(stop) => refused(stop.number, stop.place),
         Ok(None) => {
             let needed = words_for(kept);
             if !has_words(needed, values, known) {
