@@ -6,21 +6,16 @@ ghost use Rattle.definitions.specs.Number.{decimal, integer_text};
 ghost use Rattle.definitions.specs.Refusal.{needed};
 ghost use Rattle.lengths.specs.Places.{places_of};
 
-use definitions::NEEDED_LIMIT;
-
 // "A needed number above 18,446,744,073,709,551,615 is given as that one."
 pub fn add_needed(number: u64, more: u64) -> u64
     ensures { result ≡ needed (number + more) }
 {
-    if more > NEEDED_LIMIT - number {
-        return NEEDED_LIMIT;
-    }
-    number + more
+    number.saturating_add(more)
 }
 
 // Where the hundreds, the tens and the ones of a number below 10,000 stand in its text, counted from its first digit. A
 // digit that would be a zero in front has the place of the one behind it.
-#[derive(Clone, Copy)]
+#[derive(Clone, Copy, Debug, PartialEq, Eq)]
 pub struct Places {
     pub hundreds: usize,
     pub tens: usize,
@@ -41,28 +36,11 @@ pub fn places_of(m: u32) -> Places
     }
 }
 
-// How many powers of ten are at most m, found without a division.
-fn long_length(m: u64) -> usize
-    ensures { result ≡ length (decimal m) }
-{
-    let mut n: usize = 1;
-    let mut power: u64 = 10;
-    while power <= m {
-        n += 1;
-        // The next power is beyond 64 bits.
-        if n == 20 {
-            return n;
-        }
-        power = power * 10;
-    }
-    n
-}
-
 pub fn count_length(m: u64) -> usize
     ensures { result ≡ length (decimal m) }
 {
     if m >= 10_000 {
-        return long_length(m);
+        return m.ilog10() as usize + 1;
     }
     let p = places_of(m as u32);
     p.ones + 1
