@@ -3,6 +3,7 @@ use Prim.Native.Nat.{ℕ, ◌+◌, ◌≤◌}
 use mathlib.Core.Path.{◌≡◌, sym, ap, ◌∙◌}
 use mathlib.Core.Bool.{Bool, true, false}
 use mathlib.Core.List.{List, ◌∷◌}
+use Rattle.std.specs.Prelude.{Option, None, Some}
 use native.Mathlib.Omega.{arith}
 use native.Mathlib.Decide.{dec_le}
 use lib.ListN.{length, set}
@@ -13,8 +14,6 @@ use Rattle.definitions.specs.Refusal.{refuse, accept}
 use Rattle.laws.proofs.Puts.{Puts, placed, put-done, put_full, put-at-full, put-in-full}
 use Rattle.definitions.proofs.Truths.{never}
 use Rattle.outputs.specs.Print.{put, Prints}
-use Rattle.outputs.specs.declared.Put.{Put}
-use Rattle.outputs.specs.declared.Put.TheVariants.{Done, Full}
 use Rattle.puts.specs.Lands.{Lands}
 use Rattle.puts.proofs.LandLaws.{stays, puts-land, byte-before}
 use Rattle.shown.specs.Terms.{literal_words}
@@ -32,8 +31,8 @@ pub no_place : (tilde : Bool) (n at : ℕ) (o : List ℕ) → length o ≤ at �
 no_place true n at o h = stays (literal_words true n) at o (omega (arith, words-length true n))
 no_place false n at o h = stays (literal_words false n) at o (omega (arith, words-length false n))
 
-module _ (tilde : Bool) (n at x : ℕ) (is : x ≡ cross_at tilde) (o o₁ : List ℕ) (p : Put) (f : Prints (decimal n) (at + x + 1) o p o₁) where
-  pub no-number-put : p ≡ Full → Lands (literal_words tilde n) at o at o₁
+module _ (tilde : Bool) (n at x : ℕ) (is : x ≡ cross_at tilde) (o o₁ : List ℕ) (p : Option ℕ) (f : Prints (decimal n) (at + x + 1) o p o₁) where
+  pub no-number-put : p ≡ None → Lands (literal_words tilde n) at o at o₁
   no-number-put q = by (dec_le (at + x + 1 + length (decimal n)) (length o))
     where
       by : Dec (at + x + 1 + length (decimal n) ≤ length o) → Lands (literal_words tilde n) at o at o₁
@@ -42,7 +41,7 @@ module _ (tilde : Bool) (n at x : ℕ) (is : x ≡ cross_at tilde) (o o₁ : Lis
           let s = stays (literal_words tilde n) at o (omega (arith, is, words-length tilde n)) in
           record { place = s.place; after = f.after ∙ put-in-full (decimal n) (at + x + 1) o (omega arith) ∙ s.after }
 
-  module _ (e : ℕ) (q : p ≡ Done e) where
+  module _ (e : ℕ) (q : p ≡ Some e) where
     answer : accept e ≡ put_at (decimal n) (at + x + 1) o
     answer = sym (ap put q) ∙ f.answer
 
@@ -84,8 +83,8 @@ module _ (n at : ℕ) (o : List ℕ) where
   all-before true x e h = rw e (tilde-before (omega (arith, e)))
   all-before false x e h = rw e (cross-before (omega (arith, e)))
 
-module _ (tilde : Bool) (n at x : ℕ) (is : x ≡ cross_at tilde) (o o₁ : List ℕ) (p : Put) (f : Prints (decimal n) (at + x + 1) o p o₁) where
-  pub literal-put : (e : ℕ) → p ≡ Done e → Lands (literal_words tilde n) at o e (set (set (set o₁ (at + 1) 126) (at + x) 120) at 32)
+module _ (tilde : Bool) (n at x : ℕ) (is : x ≡ cross_at tilde) (o o₁ : List ℕ) (p : Option ℕ) (f : Prints (decimal n) (at + x + 1) o p o₁) where
+  pub literal-put : (e : ℕ) → p ≡ Some e → Lands (literal_words tilde n) at o e (set (set (set o₁ (at + 1) 126) (at + x) 120) at 32)
   literal-put e q =
       let h = has-place tilde n at x is o o₁ p f e q in
       let g = number_put tilde n at x is o o₁ p f e q in

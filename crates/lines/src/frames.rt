@@ -25,12 +25,7 @@ pub(crate) fn final_bound(kind: Kind, bound: i64, sums: Sums) -> i64
 fn is_equal(kind: Kind) -> bool
     ensures { result ≡ is_equal kind }
 {
-    match kind {
-        Kind::AtLeast => false,
-        Kind::AtMost => false,
-        Kind::Equal => true,
-        Kind::Objective => false,
-    }
+    matches!(kind, Kind::Equal)
 }
 
 // The operator, and the space behind it.

@@ -6,7 +6,6 @@ ghost use Rattle.lines.specs.LinePieces.{space_if, term_pieces, shown_pieces};
 ghost use Rattle.lines.specs.Ended.{PutsTerms};
 
 use literals::FileNumber;
-use outputs::Put;
 use puts::{put_number, put_text};
 use shown::{Shown, Style, Sums, show_term, with_weight};
 
@@ -36,7 +35,7 @@ fn put_literal(tilde: bool, n: FileNumber, out: &mut [u8], at: usize) -> usize
     if at >= out.len() {
         return at;
     }
-    let Put::Done(end) = outputs::print_count(number, out, at + x + 1) else {
+    let Some(end) = outputs::print_count(number, out, at + x + 1) else {
         return at;
     };
     // Where there is no `~`, the `x` takes its place.
@@ -77,15 +76,12 @@ pub(crate) fn put_terms(
 ) -> Ended
     ensures { PutsTerms style (own_terms style.unit weights.now literals.now) at out.old result out.new }
 {
-    let count = columns::term_room(weights, literals);
     let mut end = at;
     let mut sums = Sums { total: 0, fall: 0 };
-    let mut i: usize = 0;
-    while i < count {
-        let x = show_term(style, weights[i], literals[i]);
+    for (weight, code) in weights.iter().zip(literals) {
+        let x = show_term(style, *weight, *code);
         sums = with_weight(sums, x.own, x.falls);
         end = put_shown(style, x, out, end);
-        i += 1;
     }
     Ended { at: end, sums }
 }

@@ -7,7 +7,7 @@ use Rattle.definitions.specs.Number.{decimal}
 use Rattle.outputs.specs.Print.{Prints}
 use Rattle.lines.proofs.Literals.{cross_at, no_place, no-number-put, has-place, literal-put}
 use Rattle.lines.proofs.terms.put_literal.Goals as goal
-use Rattle.lines.proofs.terms.put_literal.Goals.{After-print_count, In-Done, Joined-tilde, Start, else-tilde, then-tilde}
+use Rattle.lines.proofs.terms.put_literal.Goals.{After-print_count, In-Some, Joined-tilde, Start, else-tilde, then-tilde}
 
 module _ (c : Joined-tilde) where
   abbrev start : Start
@@ -30,9 +30,9 @@ module _ (c : After-print_count) where
       c.print_count.result c.print_count.new.out
   printed = rw joined.number-number.ensures at c.print_count.ensures
 
-module _ (c : In-Done) where
+module _ (c : In-Some) where
   abbrev counted : After-print_count
-  counted = (goal.at.In-Done c).After-print_count
+  counted = (goal.at.In-Some c).After-print_count
 
   room : let j = joined counted in
       (start j).args.at + j.if-tilde.x + 1 + length (decimal (start j).args.n.0) ≤ length (start j).args.out.now
@@ -40,7 +40,7 @@ module _ (c : In-Done) where
       let j = joined counted in
       let s = start j in
       has-place s.args.tilde s.args.n.0 s.args.at j.if-tilde.x (cross j) s.args.out.now _ _ (printed counted)
-      _ c.in-Done.is
+      _ c.in-Some.is
 
   long : length counted.print_count.new.out ≡ length (start (joined counted)).args.out.now
   long = counted.print_count.auto.out
@@ -81,4 +81,4 @@ returns c =
     let j = joined (goal.at.returns c).After-print_count in
     let s = start j in
     literal-put s.args.tilde s.args.n.0 s.args.at j.if-tilde.x (cross j) s.args.out.now _ _ (printed (goal.at.returns c).After-print_count)
-    _ c.in-Done.is
+    _ c.in-Some.is
