@@ -4,6 +4,7 @@ use Rattle.std.specs.Prelude.{Result, Ok, Err}
 use mathlib.Core.Path.{◌≡◌, refl, sym, ap, ◌∙◌}
 use mathlib.Core.Bool.{Bool, true, false, cond}
 use mathlib.Core.List.{List}
+use Rattle.std.specs.Prelude.{Option}
 use Prim.Native.Nat.{ℕ, ◌+◌}
 use native.Mathlib.Omega.{arith}
 use lib.Dec.{leb}
@@ -24,7 +25,6 @@ use Rattle.laws.proofs.ReadRows.{statements-good, good-indexed, good-numbered}
 use Rattle.definitions.proofs.FileAnswers.{file-accepted}
 use Rattle.definitions.proofs.Columns.{fitted-accepted}
 use Rattle.definitions.proofs.Truths.{never}
-use Rattle.outputs.specs.declared.Put.{Put}
 use Rattle.outputs.specs.Print.{Prints}
 use Rattle.reader.specs.Reads.{Reads}
 use Rattle.house.specs.ListsTable.{Lists}
@@ -77,7 +77,7 @@ module _ (first : ℕ) (s : List ℕ) (t : Table) where
       unfolding listing
       text-is = rw (refused-count e (reading (first_at first) s t) (sym (ap said_counted q) ∙ reads.answer))
 
-      pub refused-lists : (r : Put) → Prints (refused_line (refusal e.number e.place)) 0 o r o' → ListsRead first s t o t' o'
+      pub refused-lists : (r : Option ℕ) → Prints (refused_line (refusal e.number e.place)) 0 o r o' → ListsRead first s t o t' o'
       unfolding file_listing
       refused-lists r prints =
           record {

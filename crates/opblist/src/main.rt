@@ -3,20 +3,18 @@
 // printed. What cannot be read or printed is said on standard error.
 #![tactic(auto)]
 
-use outputs::Put;
 use std::io;
 use std::io::Write;
-use streams::Input;
 
 // "first index 1, up to 4,096 rows and 8,192 terms"
-fn list(file: &[u8], out: &mut [u8]) -> Put {
+fn list(file: &[u8], out: &mut [u8]) -> Option<usize> {
     let mut kinds = [0u8; 4096];
     let mut firsts = [0usize; 4096];
     let mut counts = [0usize; 4096];
     let mut bounds = [0i64; 4096];
     let mut weights = [0i64; 8192];
     let mut literals = [0u32; 8192];
-    match listing::list_file(
+    listing::list_file(
         file,
         1,
         &mut kinds,
@@ -26,25 +24,23 @@ fn list(file: &[u8], out: &mut [u8]) -> Put {
         &mut weights,
         &mut literals,
         out,
-    ) {
-        Ok(length) => Put::Done(length),
-        Err(_) => Put::Full,
-    }
+    )
+    .ok()
 }
 
 // What was put into `out`, or why it is not printed.
 fn show_put<O: Write, E: Write>(
     output: &mut O,
     errors: &mut E,
-    put: Put,
+    put: Option<usize>,
     out: &[u8],
 ) -> io::Result<()> {
     match put {
-        Put::Done(_) => match streams::print_put(output, put, out) {
+        Some(_) => match streams::print_put(output, put, out) {
             Ok(true) => Ok(()),
             _ => streams::say(errors, b"opblist: standard output takes no more\n"),
         },
-        Put::Full => streams::say(errors, b"opblist: the lines do not fit the output buffer\n"),
+        None => streams::say(errors, b"opblist: the lines do not fit the output buffer\n"),
     }
 }
 
@@ -68,8 +64,8 @@ fn main(rt: HostRuntime) -> io::Result<()> {
     let mut errors = rt.stderr();
     let mut input = [0; 65536];
     match streams::read_input(&mut rt.stdin(), &mut input) {
-        Ok(Input::Bytes(n)) => show(&mut output, &mut errors, &input[..n]),
-        Ok(Input::More) => refuse(&mut output, &mut errors),
+        Ok(Some(n)) => show(&mut output, &mut errors, &input[..n]),
+        Ok(None) => refuse(&mut output, &mut errors),
         Err(_) => streams::say(&mut errors, b"opblist: standard input cannot be read\n"),
     }
 }

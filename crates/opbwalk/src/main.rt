@@ -5,10 +5,8 @@
 #![tactic(auto)]
 
 use definitions::{Entry, Options, Refusal, Totals};
-use outputs::Put;
 use std::io;
 use std::io::Write;
-use streams::Input;
 use walker::Stepped;
 
 // "up to 4,096 rows and 8,192 terms"
@@ -28,15 +26,15 @@ fn told<E: Write>(errors: &mut E, printed: bool) -> io::Result<bool> {
 fn show_put<O: Write, E: Write>(
     output: &mut O,
     errors: &mut E,
-    put: Put,
+    put: Option<usize>,
     out: &[u8],
 ) -> io::Result<bool> {
     match put {
-        Put::Done(_) => {
+        Some(_) => {
             let printed = matches!(streams::print_put(output, put, out), Ok(true));
             told(errors, printed)
         }
-        Put::Full => {
+        None => {
             streams::say(
                 errors,
                 b"opbwalk: the line does not fit the output buffer\n",
@@ -54,19 +52,11 @@ fn refuse<O: Write, E: Write>(output: &mut O, errors: &mut E, refusal: Refusal) 
 }
 
 // "The first line is rows, terms, first index."
-fn put_head(rows: u64, terms: u64, out: &mut [u8]) -> Put {
-    let Put::Done(a) = outputs::print_text(b"opb\t", out, 0) else {
-        return Put::Full;
-    };
-    let Put::Done(b) = outputs::print_count(rows, out, a) else {
-        return Put::Full;
-    };
-    let Put::Done(c) = outputs::print_text(b"\t", out, b) else {
-        return Put::Full;
-    };
-    let Put::Done(d) = outputs::print_count(terms, out, c) else {
-        return Put::Full;
-    };
+fn put_head(rows: u64, terms: u64, out: &mut [u8]) -> Option<usize> {
+    let a = outputs::print_text(b"opb\t", out, 0)?;
+    let b = outputs::print_count(rows, out, a)?;
+    let c = outputs::print_text(b"\t", out, b)?;
+    let d = outputs::print_count(terms, out, c)?;
     outputs::print_text(b"\t1\n", out, d)
 }
 
@@ -202,8 +192,8 @@ fn main(rt: HostRuntime) -> io::Result<()> {
     let mut errors = rt.stderr();
     let mut input = [0; 65536];
     match streams::read_input(&mut rt.stdin(), &mut input) {
-        Ok(Input::Bytes(n)) => show(&mut output, &mut errors, &input[..n]),
-        Ok(Input::More) => {
+        Ok(Some(n)) => show(&mut output, &mut errors, &input[..n]),
+        Ok(None) => {
             let refusal = Refusal {
                 number: 1,
                 place: 0,

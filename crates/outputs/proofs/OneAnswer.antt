@@ -2,22 +2,20 @@
 use mathlib.Core.Path.{◌≡◌, refl, sym, ◌∙◌}
 use mathlib.Core.List.{List}
 use Prim.Native.Nat.{ℕ}
-use native.Mathlib.Omega.{arith}
+use Rattle.std.specs.Prelude.{Option, None, Some}
 use Rattle.outputs.specs.Print.{put, Prints}
-use Rattle.outputs.specs.declared.Put.{Put}
-use Rattle.outputs.specs.declared.Put.TheVariants.{Done, Full}
 use Rattle.outputs.proofs.print_count.Reads as print-count
 use Rattle.outputs.proofs.print_number.Reads as print-number
 use Rattle.outputs.proofs.print_text.Reads as print-text
 
-pub put_one : (r r' : Put) → put r ≡ put r' → r ≡ r'
-put_one (Done n) (Done m) e = cc
-put_one (Done n) Full e = let q : ◌≡◌ {A = ℕ} 0 1 = cc in absurd (omega arith)
-put_one Full (Done m) e = let q : ◌≡◌ {A = ℕ} 0 1 = cc in absurd (omega arith)
-put_one Full Full e = refl
+pub put_one : (r r' : Option ℕ) → put r ≡ put r' → r ≡ r'
+put_one (Some n) (Some m) e = cc
+put_one (Some n) None e = cc
+put_one None (Some m) e = cc
+put_one None None e = refl
 
 -- what any of the three prints leaves
-prints-one : {text : List ℕ} {at : ℕ} {o : List ℕ} (r r' : Put) (o' o'' : List ℕ) → Prints text at o r o'
+prints-one : {text : List ℕ} {at : ℕ} {o : List ℕ} (r r' : Option ℕ) (o' o'' : List ℕ) → Prints text at o r o'
     → Prints text at o r' o'' → (r ≡ r') × (o' ≡ o'')
 prints-one r r' o' o'' p q = (put_one r r' (p.answer ∙ sym q.answer), p.after ∙ sym q.after)
 

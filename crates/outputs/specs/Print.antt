@@ -1,19 +1,17 @@
 -- What the code's answer to printing says, and what a print leaves in the output.
-use Rattle.std.specs.Prelude.{◌≡◌, ℕ, ◌+◌, ◌*◌, ◌/◌, ◌%◌, Bool, true, false, List, ◌∷◌}
+use Rattle.std.specs.Prelude.{◌≡◌, ℕ, ◌+◌, ◌<◌, ◌≤◌, Bool, true, false, cond, List, ◌∷◌, length, set, Option, None, Some}
 use Rattle.definitions.specs.Bytes.{minus}
 use Rattle.definitions.specs.Number.{decimal}
 use Rattle.definitions.specs.Refusal.{Checked, refuse, accept}
 use Rattle.definitions.specs.Output.{put_at, put_in}
-use Rattle.outputs.specs.declared.Put.{Put}
-use Rattle.outputs.specs.declared.Put.TheVariants.{Done, Full}
 
 -- the place behind the text; "output does not fit": 14
-abbrev pub put : Put → Checked ℕ
-put (Done n) = accept n
-put Full = refuse 14
+abbrev pub put : Option ℕ → Checked ℕ
+put (Some n) = accept n
+put None = refuse 14
 
 -- the text at a place of the output o: the answer, and the output after it
-pub record Prints (text : List ℕ) (at : ℕ) (o : List ℕ) (r : Put) (o' : List ℕ) : Type 0 where
+pub record Prints (text : List ℕ) (at : ℕ) (o : List ℕ) (r : Option ℕ) (o' : List ℕ) : Type 0 where
   pub answer : put r ≡ put_at text at o
   pub after : o' ≡ put_in text at o
 
@@ -22,6 +20,7 @@ abbrev pub signed_text : Bool → ℕ → List ℕ
 signed_text true m = minus ∷ decimal m
 signed_text false m = decimal m
 
--- the four digits of a number below 10,000 in one number, the first byte lowest
-abbrev pub four_bytes : ℕ → ℕ
-four_bytes m = 48 + m / 1000 + 256 * (48 + m / 100 % 10 + 256 * (48 + m / 10 % 10 + 256 * (48 + m % 10)))
+-- the sign, or none, before n digits: the first digit's place, with a `-` where the sign or that digit stands
+abbrev pub HasSign : Bool → ℕ → ℕ → List ℕ → Option ℕ → List ℕ → Type 0
+HasSign negative n at o None o' = (length o < at + (n + cond negative 1 0)) × (o' ≡ o)
+HasSign negative n at o (Some p) o' = (p ≡ at + cond negative 1 0) × (p + n ≤ length o) × (o' ≡ set o at minus)

@@ -3,6 +3,7 @@ use Prim.Native.Nat.{ℕ, suc, ◌+◌, ◌≤◌, ◌<◌}
 use mathlib.Core.Path.{◌≡◌, refl, sym, ap, ◌∙◌}
 use mathlib.Core.Bool.{Bool, true, false, cond}
 use mathlib.Core.List.{List, ◌∷◌, ◌++◌}
+use Rattle.std.specs.Prelude.{Option, None, Some, unwrap_or}
 use native.Mathlib.Omega.{arith}
 use native.Mathlib.Decide.{dec_le}
 use native.Mathlib.Numerals.{add-one}
@@ -14,9 +15,7 @@ use Rattle.definitions.specs.Refusal.{refuse, accept}
 use Rattle.laws.proofs.Puts.{Puts, placed, placed-length, put-in-fits, put-in-full, put-done, put_full, put-at-full}
 use Rattle.definitions.proofs.Truths.{never}
 use Rattle.outputs.specs.Print.{put, Prints}
-use Rattle.outputs.specs.declared.Put.{Put}
-use Rattle.outputs.specs.declared.Put.TheVariants.{Done, Full}
-use Rattle.puts.specs.Lands.{end_of, place_after, Lands}
+use Rattle.puts.specs.Lands.{place_after, Lands}
 
 module _ (text : List ℕ) (at : ℕ) (o : List ℕ) where
   -- where there is room
@@ -33,17 +32,17 @@ module _ (text : List ℕ) (at : ℕ) (o : List ℕ) where
   stays h = record { place = rw (lt-leb (at + length text) (length o) h); after = sym (put-in-full text at o h) }
 
   -- what a print comes to
-  ends : (p : Put) → put p ≡ put_at text at o → end_of at p ≡ place_after text at o
+  ends : (p : Option ℕ) → put p ≡ put_at text at o → unwrap_or p at ≡ place_after text at o
   unfolding put_at
   ends p e = by p (fits_at text at o) e
     where
-      by : (p : Put) (b : Bool) → put p ≡ cond b (accept (at + length text)) (refuse 14) → end_of at p ≡ cond b (at + length text) at
-      by (Done n) true q = cc
-      by (Done n) false q = never (cc)
-      by Full true q = never (cc)
-      by Full false q = refl
+      by : (p : Option ℕ) (b : Bool) → put p ≡ cond b (accept (at + length text)) (refuse 14) → unwrap_or p at ≡ cond b (at + length text) at
+      by (Some n) true q = cc
+      by (Some n) false q = never (cc)
+      by None true q = never (cc)
+      by None false q = refl
 
-  pub print-lands : {r : ℕ} {o' : List ℕ} (p : Put) → Prints text at o p o' → r ≡ end_of at p → Lands text at o r o'
+  pub print-lands : {r : ℕ} {o' : List ℕ} (p : Option ℕ) → Prints text at o p o' → r ≡ unwrap_or p at → Lands text at o r o'
   print-lands p f e = record { place = e ∙ ends p f.answer; after = f.after }
 
 -- ---- a byte b at `at`, before a text that was printed behind it
@@ -60,8 +59,8 @@ module _ (b : ℕ) (text : List ℕ) (at : ℕ) (o : List ℕ) where
       let n : at + 1 + length text ≡ at + suc (length text) = omega arith in
       set_split (front ++ rest) at b (omega (arith, placed-length text (at + 1) o h)) ∙ rw (t, d, n)
 
-  module _ (o₁ : List ℕ) (p : Put) (f : Prints text (at + 1) o p o₁) where
-    pub byte_put : (e : ℕ) → p ≡ Done e → Lands (b ∷ text) at o e (set o₁ at b)
+  module _ (o₁ : List ℕ) (p : Option ℕ) (f : Prints text (at + 1) o p o₁) where
+    pub byte_put : (e : ℕ) → p ≡ Some e → Lands (b ∷ text) at o e (set o₁ at b)
     byte_put e q = by (dec_le (at + 1 + length text) (length o))
       where
         answer : accept e ≡ put_at text (at + 1) o
@@ -79,7 +78,7 @@ module _ (b : ℕ) (text : List ℕ) (at : ℕ) (o : List ℕ) where
             let z : accept e ≡ refuse 14 = answer ∙ put-at-full text (at + 1) o (omega arith) in
             never (cc)
 
-    pub byte-stays : p ≡ Full → Lands (b ∷ text) at o at o₁
+    pub byte-stays : p ≡ None → Lands (b ∷ text) at o at o₁
     byte-stays q = by (dec_le (at + 1 + length text) (length o))
       where
         by : Dec (at + 1 + length text ≤ length o) → Lands (b ∷ text) at o at o₁

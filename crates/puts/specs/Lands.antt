@@ -2,12 +2,6 @@
 -- the place itself.
 use Rattle.std.specs.Prelude.{ℕ, ◌+◌, ◌≡◌, cond, List, length}
 use Rattle.definitions.specs.Output.{fits_at, put_in}
-use Rattle.outputs.specs.declared.Put.{Put}
-use Rattle.outputs.specs.declared.Put.TheVariants.{Done, Full}
-
-abbrev pub end_of : ℕ → Put → ℕ
-end_of at (Done n) = n
-end_of at Full = at
 
 abbrev pub place_after : List ℕ → ℕ → List ℕ → ℕ
 place_after text at o = cond (fits_at text at o) (at + length text) at

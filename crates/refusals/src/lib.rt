@@ -8,7 +8,6 @@ ghost use Rattle.definitions.specs.House.{refused_line};
 ghost use Rattle.laws.proofs.Puts.{Puts};
 ghost use Rattle.outputs.specs.Print.{Prints};
 
-use outputs::Put;
 use puts::{put_field, put_text};
 
 // The length of the line of a refusal: `refused`, two tabs, number, place and an LF.
@@ -30,11 +29,11 @@ fn put_refusal(number: u8, place: u64, out: &mut [u8]) -> usize
 }
 
 // "A refusal prints `refused|number|place` alone."
-pub fn list_refusal(number: u8, place: u64, out: &mut [u8]) -> Put
+pub fn list_refusal(number: u8, place: u64, out: &mut [u8]) -> Option<usize>
     ensures { Prints (refused_line (refusal number place)) 0 out.old result out.new }
 {
     if refusal_length(number, place) > out.len() {
-        return Put::Full;
+        return None;
     }
-    Put::Done(put_refusal(number, place, out))
+    Some(put_refusal(number, place, out))
 }

@@ -8,16 +8,8 @@ ghost use Rattle.std.specs.Io.KnownBytes.{Appends, Keeps};
 ghost use Rattle.streams.specs.Streamed.{IsFilled, IsBehind, IsInput, AppendsFront, ConsumesFront, lies_within, put_text};
 ghost use Rattle.streams.specs.Within.{InputWithin, PrintedWithin};
 
-use outputs::Put;
 use std::io;
 use std::io::{ErrorKind, Read, Write};
-
-// The whole input is that many bytes at the front of the buffer; or it has more than the buffer holds.
-#[derive(Clone, Copy)]
-pub enum Input {
-    Bytes(usize),
-    More,
-}
 
 // Reads until the buffer is full or the input ends: how many bytes then stand at its front.
 fn fill<R: Read>(reader: &mut R, buffer: &mut [u8]) -> io::Result<usize>
@@ -35,8 +27,8 @@ fn fill<R: Read>(reader: &mut R, buffer: &mut [u8]) -> io::Result<usize>
     Ok(done)
 }
 
-// The input behind a buffer that is full: whether a byte follows.
-fn behind<R: Read>(reader: &mut R, full: usize) -> io::Result<Input>
+// The input behind a buffer that is full: none where a byte follows.
+fn behind<R: Read>(reader: &mut R, full: usize) -> io::Result<Option<usize>>
     ensures within { IfOk result (λ input. InputWithin input full) }
     ensures bytes { IfOk result (IsBehind (R.remaining reader.old) full) }
     ensures err { OnErr result (Keeps (R.remaining reader.old) (R.remaining reader.new)) }
@@ -44,20 +36,21 @@ fn behind<R: Read>(reader: &mut R, full: usize) -> io::Result<Input>
     let mut one = [0u8; 1];
     let more = reader.read(&mut one)?;
     if more > 0 {
-        return Ok(Input::More);
+        return Ok(None);
     }
-    Ok(Input::Bytes(full))
+    Ok(Some(full))
 }
 
-// The whole input. After an error, what was read before it stands at the front of the buffer.
-pub fn read_input<R: Read>(reader: &mut R, buffer: &mut [u8]) -> io::Result<Input>
+// The whole input: how many bytes it has, at the front of the buffer; none where it has more than the buffer holds. After
+// an error, what was read before it stands there.
+pub fn read_input<R: Read>(reader: &mut R, buffer: &mut [u8]) -> io::Result<Option<usize>>
     ensures within { IfOk result (λ input. InputWithin input (length buffer.new)) }
     ensures bytes { IfOk result (IsInput (R.remaining reader.old) buffer.new) }
     ensures err { OnErr result (ConsumesFront (R.remaining reader.old) (R.remaining reader.new) buffer.new) }
 {
     let n = fill(reader, buffer)?;
     if n < buffer.len() {
-        return Ok(Input::Bytes(n));
+        return Ok(Some(n));
     }
     behind(reader, n)
 }
@@ -88,20 +81,20 @@ pub fn say<W: Write>(writer: &mut W, text: &[u8]) -> io::Result<()>
 
 // What was put into `out`, to standard output: whether it was written. Where nothing was put, or more than `out` holds,
 // nothing is, and no error comes.
-pub fn print_put<W: Write>(writer: &mut W, put: Put, out: &[u8]) -> io::Result<bool>
+pub fn print_put<W: Write>(writer: &mut W, put: Option<usize>, out: &[u8]) -> io::Result<bool>
     ensures within { IfOk result (PrintedWithin put (length out.now)) }
     ensures answer { IfOk result (λ printed. printed ≡ lies_within put (length out.now)) }
     ensures ok { OnOk result (Appends (W.contents writer.old) (W.contents writer.new) (put_text put out.now)) }
     ensures err { OnErr result (AppendsFront (W.contents writer.old) (W.contents writer.new) (put_text put out.now)) }
 {
     match put {
-        Put::Done(n) => {
+        Some(n) => {
             if n > out.len() {
                 return Ok(false);
             }
             print(writer, &out[..n])?;
             Ok(true)
         }
-        Put::Full => Ok(false),
+        None => Ok(false),
     }
 }

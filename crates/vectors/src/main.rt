@@ -26,7 +26,6 @@ ghost use Rattle.std.specs.Prelude.{◌≡◌, ◌<◌, ◌≤◌, length};
 
 use std::io;
 use std::io::Write;
-use streams::Input;
 
 // The place behind the line that begins at `at`.
 fn line_end(s: &[u8], at: usize) -> usize
@@ -94,8 +93,8 @@ fn main(rt: HostRuntime) -> io::Result<()> {
     let mut errors = rt.stderr();
     let mut input = space();
     match streams::read_input(&mut rt.stdin(), &mut input) {
-        Ok(Input::Bytes(n)) => run_cases(&mut rt.stdout(), &input[..n]),
-        Ok(Input::More) => streams::say(&mut errors, b"vectors: more than 131,072 bytes\n"),
+        Ok(Some(n)) => run_cases(&mut rt.stdout(), &input[..n]),
+        Ok(None) => streams::say(&mut errors, b"vectors: more than 131,072 bytes\n"),
         Err(_) => streams::say(&mut errors, b"vectors: standard input cannot be read\n"),
     }
 }

@@ -3,7 +3,6 @@
 // nothing.
 #![tactic(auto)]
 
-use outputs::Put;
 use std::io;
 use std::io::Write;
 use vectors_columns::ROOM;
@@ -52,10 +51,10 @@ pub fn text_case<W: Write>(output: &mut W, line: &[u8]) -> io::Result<bool> {
 
 // ---- prints
 
-fn show_put<W: Write>(output: &mut W, r: Put, out: &[u8]) -> io::Result<()> {
+fn show_put<W: Write>(output: &mut W, r: Option<usize>, out: &[u8]) -> io::Result<()> {
     match r {
-        Put::Done(e) => say_size(output, e)?,
-        Put::Full => say(output, b" full")?,
+        Some(e) => say_size(output, e)?,
+        None => say(output, b" full")?,
     }
     say_bytes(output, out)
 }

@@ -4,4 +4,4 @@ use Rattle.puts.proofs.put_count.Goals as goal
 
 pub returns : goal.returns
 returns c =
-    print-lands _ _ _ c.print_count.result c.print_count.ensures c.place_after.ensures
+    print-lands _ _ _ c.print_count.result c.print_count.ensures c.unwrap_or.ensures

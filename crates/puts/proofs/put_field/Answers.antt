@@ -16,4 +16,4 @@ returns-in_default c =
 
 pub returns : goal.returns
 returns c =
-    byte_put tab (decimal c.args.m) c.args.at c.args.out.now _ _ c.print_count.ensures _ c.in-Done.is
+    byte_put tab (decimal c.args.m) c.args.at c.args.out.now _ _ c.print_count.ensures _ c.in-Some.is

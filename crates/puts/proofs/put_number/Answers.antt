@@ -5,4 +5,4 @@ use Rattle.puts.proofs.put_number.Goals as goal
 
 pub returns : goal.returns
 returns c =
-    print-lands _ _ _ c.print_number.result (rw (to_z-of_z c.ranges.z) at c.print_number.ensures) c.place_after.ensures
+    print-lands _ _ _ c.print_number.result (rw (to_z-of_z c.ranges.z) at c.print_number.ensures) c.unwrap_or.ensures

@@ -4,4 +4,4 @@ use Rattle.puts.proofs.put_text.Goals as goal
 
 pub returns : goal.returns
 returns c =
-    print-lands _ _ _ c.print_text.result c.print_text.ensures c.place_after.ensures
+    print-lands _ _ _ c.print_text.result c.print_text.ensures c.unwrap_or.ensures
