@@ -20,7 +20,6 @@ use Rattle.house.specs.Ready.{RowReady, RowsReady}
 module _ (t : Table) (n : ℕ) where
   -- i rows are put
   pub record Putting (first at : ℕ) (o : List ℕ) (i : ℕ) (out : List ℕ) (end : ℕ) : Type 0 where
-    pub most : i ≤ n
     pub lines : List Line
     pub rows : Passed (listed_entry first t) (take n (entries t)) i lines
     pub puts : Puts (joined (house_line first) lines) at o end out
@@ -28,7 +27,7 @@ module _ (t : Table) (n : ℕ) where
   pub putting-none : (first at : ℕ) (o : List ℕ) → Putting first at o 0 o at
   unfolding joined
   putting-none first at o =
-      record { most = omega arith; lines = []; rows = passed_none (listed_entry first t) (take n (entries t)); puts = puts_none at o }
+      record { lines = []; rows = passed_none (listed_entry first t) (take n (entries t)); puts = puts_none at o }
 
   module _ {first at : ℕ} {o : List ℕ} (r : RowsReady first n t at o) {i : ℕ} {out : List ℕ} {end : ℕ}
       (p : Putting first at o i out end) where
@@ -75,7 +74,6 @@ module _ (t : Table) (n : ℕ) where
           → Putting first at o (i + 1) out' end'
       putting-more f =
           record {
-            most = omega arith;
             lines = p.lines ++ (next.value ∷ []);
             rows = more;
             puts =

@@ -10,7 +10,6 @@ ghost use Rattle.definitions.specs.Table.{table};
 ghost use Rattle.house.specs.ListsTable.{Lists};
 
 use definitions::Refusal;
-use house_measures::Measured;
 
 // The lines of the first `rows` rows. Row by row 11, then 5; then 14 with the length needed.
 pub fn list_table(
@@ -26,22 +25,18 @@ pub fn list_table(
 ) -> Result<usize, Refusal>
     ensures { Lists first rows (table kinds.now firsts.now counts.now bounds.now weights.now literals.now) out.old result out.new }
 {
-    match house_measures::measure_rows(
+    let (n, size) = house_measures::measure_rows(
         kinds, firsts, counts, bounds, weights, literals, rows, first,
-    ) {
-        Measured::Refused(refusal) => Err(refusal),
-        Measured::Lines(n, size) => {
-            let length = house_lengths::text_length(n, size.terms, size.length, first);
-            if length > out.len() as u64 {
-                return Err(Refusal {
-                    number: 14,
-                    place: length,
-                });
-            }
-            let at = lines::put_head(n, size.terms, first, out);
-            Ok(lines::put_rows(
-                kinds, firsts, counts, bounds, weights, literals, n, first, out, at,
-            ))
-        }
+    )?;
+    let length = house_lengths::text_length(n, size.terms, size.length, first);
+    if length > out.len() as u64 {
+        return Err(Refusal {
+            number: 14,
+            place: length,
+        });
     }
+    let at = lines::put_head(n, size.terms, first, out);
+    Ok(lines::put_rows(
+        kinds, firsts, counts, bounds, weights, literals, n, first, out, at,
+    ))
 }

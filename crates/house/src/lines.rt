@@ -120,12 +120,10 @@ pub(crate) fn put_rows(
         → Puts (joined (house_line first) ls) at out.old result out.new }
 {
     let mut end = at;
-    let mut i: usize = 0;
-    while i < rows {
+    for i in 0..rows {
         end = put_row(
             kinds[i], firsts[i], counts[i], bounds[i], weights, literals, first, out, end,
         );
-        i += 1;
     }
     end
 }

@@ -56,10 +56,8 @@ pub(crate) fn put_terms(
     ensures { Puts (joined (term_fields first) (terms_on weights.now literals.now)) at out.old result out.new }
 {
     let mut end = at;
-    let mut i: usize = 0;
-    while i < literals.len() {
-        end = put_term(weights[i], Lit::of_code(literals[i]), first, out, end);
-        i += 1;
+    for (weight, code) in weights.iter().zip(literals) {
+        end = put_term(*weight, Lit::of_code(*code), first, out, end);
     }
     end
 }

@@ -1,5 +1,6 @@
 -- Laws of the fields of a term: the text of a literal, the lengths, and what is said of a length. Lengths are added up
 -- to the limit of a needed number.
+use Rattle.std.specs.Prelude.{Option, Some, None}
 use mathlib.Core.Path.{◌≡◌, refl, sym, ap, ◌∙◌}
 use mathlib.Core.Bool.{Bool, true, false, cond}
 use mathlib.Core.List.{List, ◌∷◌, ◌++◌}
@@ -15,8 +16,6 @@ use Rattle.definitions.specs.Write.{number_text, literal_text, is_accepted}
 use Rattle.definitions.specs.House.{field, term_fields}
 use Rattle.laws.proofs.Puts.{needed-add, needed-both}
 use Rattle.definitions.proofs.Truths.{never}
-use Rattle.house_lengths.specs.declared.terms.TermLength.{TermLength}
-use Rattle.house_lengths.specs.declared.terms.TermLength.TheVariants as term-length
 use Rattle.house_lengths.specs.Words.{literal_words, term_words}
 use Rattle.house_lengths.specs.Lengths.{said_term_length, term_length}
 
@@ -66,8 +65,8 @@ module _ {A : Type 0} (s t : List A) {n m r : ℕ} (a : n ≡ needed (length s))
   needed-more-yet b e = e ∙ rw (a, b, needed-both, length-append s t)
 
 -- what is said of one term
-module _ (first : ℕ) (w : ℤ) (c : ℕ) (r : TermLength) (e : said_term_length r ≡ term_length first (term w c)) where
-  pub counted_is : (n : ℕ) → r ≡ term-length.Is n
+module _ (first : ℕ) (w : ℤ) (c : ℕ) (r : Option ℕ) (e : said_term_length r ≡ term_length first (term w c)) where
+  pub counted_is : (n : ℕ) → r ≡ Some n
       → (is_accepted (file_number first (index_of c)) ≡ true) × (n ≡ length (term_fields first (term w c)))
   counted_is n q = by (is_accepted (file_number first (index_of c))) (sym (ap said_term_length q) ∙ e)
     where
@@ -76,7 +75,7 @@ module _ (first : ℕ) (w : ℤ) (c : ℕ) (r : TermLength) (e : said_term_lengt
       by true p = (refl, cc)
       by false p = never (cc)
 
-  pub counted_none : r ≡ term-length.OutOfRange → is_accepted (file_number first (index_of c)) ≡ false
+  pub counted_none : r ≡ None → is_accepted (file_number first (index_of c)) ≡ false
   counted_none q = by (is_accepted (file_number first (index_of c))) (sym (ap said_term_length q) ∙ e)
     where
       by : (b : Bool) → refuse 5 ≡ cond b (accept (length (term_fields first (term w c)))) (refuse 5) → b ≡ false

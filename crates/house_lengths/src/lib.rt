@@ -7,4 +7,4 @@ mod lines;
 mod terms;
 
 pub use lines::{line_length, text_length};
-pub use terms::{TermLength, term_length};
+pub use terms::term_length;

@@ -1,4 +1,5 @@
 -- One entry of a table: which line it is, by its kind and its columns, and the size of that line.
+use Rattle.std.specs.Prelude.{Option, Some, None}
 use mathlib.Core.Path.{◌≡◌, refl, sym, ap, ◌∙◌}
 use mathlib.Core.Bool.{Bool, true, false, cond}
 use mathlib.Core.List.{List, []}
@@ -19,8 +20,6 @@ use Rattle.laws.proofs.Puts.{needed-add}
 use Rattle.definitions.proofs.Truths.{never}
 use Rattle.term_checks.specs.TermTests.{codes_indexed}
 use Rattle.term_checks.proofs.Terms.{terms-count, weights_at, literals_at, terms-at, weights-at-count, literals-at-count, indexed-on}
-use Rattle.house_measures.specs.declared.terms.TermsLength.{TermsLength}
-use Rattle.house_measures.specs.declared.terms.TermsLength.TheVariants as terms-length
 use Rattle.house_measures.specs.declared.rows.Size.{Size}
 use Rattle.columns.specs.Kinds.{read_kind}
 use Rattle.columns.proofs.KindNumbers.{read-kind, unread-kind}
@@ -110,8 +109,8 @@ module _ (first : ℕ) (ws : List ℤ) (cs : List ℕ) where
     row-refused i = rw (indexed-on ws cs long, i)
 
     -- the length of its terms is counted, or they have no file numbers
-    module _ (r : TermsLength) (i : codes_indexed cs ≡ true) (e : said_terms_length r ≡ terms_length first (terms_on ws cs)) where
-      pub row-unnumbered : r ≡ terms-length.OutOfRange → refuse 5 ≡ size_in first (row_on first k b ws cs)
+    module _ (r : Option ℕ) (i : codes_indexed cs ≡ true) (e : said_terms_length r ≡ terms_length first (terms_on ws cs)) where
+      pub row-unnumbered : r ≡ None → refuse 5 ≡ size_in first (row_on first k b ws cs)
       row-unnumbered q = rw (indexed-on ws cs long, i) (by (numbered first (terms_on ws cs)) _ _ (sym (ap said_terms_length q) ∙ e))
         where
           by : (x : Bool) (l : Line) (n : ℕ) → refuse 5 ≡ cond x (accept n) (refuse 5)
@@ -119,7 +118,7 @@ module _ (first : ℕ) (ws : List ℤ) (cs : List ℕ) where
           by true l n p = never (cc)
           by false l n p = refl
 
-      pub row_sized : (n m t : ℕ) → 0 < k → r ≡ terms-length.Is t → n ≡ length cs → m ≡ line_length k n b t
+      pub row_sized : (n m t : ℕ) → 0 < k → r ≡ Some t → n ≡ length cs → m ≡ line_length k n b t
           → accept (record { terms = n; length = m }) ≡ size_in first (row_on first k b ws cs)
       row_sized n m t pos q p s =
           rw (indexed-on ws cs long, i) (by (numbered first (terms_on ws cs)) (sym (ap said_terms_length q) ∙ e))

@@ -6,4 +6,4 @@
 mod rows;
 mod terms;
 
-pub use rows::{Measured, Size, measure_rows};
+pub use rows::{Size, measure_rows};

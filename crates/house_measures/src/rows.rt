@@ -5,8 +5,8 @@ ghost use Rattle.definitions.specs.Table.{table};
 ghost use Rattle.house_measures.specs.Lines.{row_on, line_on, lines_of};
 ghost use Rattle.house_measures.specs.Sizes.{said_size, size_in, said_measured, sizes_in};
 
-use crate::terms::{TermsLength, terms_length};
-use definitions::{COMMENT, OBJECTIVE, Refusal};
+use crate::terms::terms_length;
+use definitions::{COMMENT, Fault, OBJECTIVE, Refusal};
 use lengths::add_needed;
 
 // "row that no table may hold"
@@ -16,42 +16,31 @@ const NO_ROW: u8 = 11;
 const NO_NUMBER: u8 = 5;
 
 // How many terms, and the length of the lines.
-#[derive(Clone, Copy)]
+#[derive(Clone, Copy, Debug, PartialEq, Eq)]
 pub struct Size {
     pub terms: u64,
     pub length: u64,
 }
 
-#[derive(Clone, Copy)]
-pub(crate) enum RowSize {
-    Is(Size),
-    // 11 or 5
-    Refused(u8),
-}
-
-#[derive(Clone, Copy)]
-pub enum Measured {
-    // How many rows, and their sizes together.
-    Lines(usize, Size),
-    // The first row that is refused.
-    Refused(Refusal),
-}
-
 // A row of a read kind, whose terms lie in their columns: the rest of 11, then 5.
-fn measure_line(kind: u8, bound: i64, weights: &[i64], literals: &[u32], first: u32) -> RowSize
+fn measure_line(
+    kind: u8,
+    bound: i64,
+    weights: &[i64],
+    literals: &[u32],
+    first: u32,
+) -> Result<Size, Fault>
     requires { (0 < kind) × (length weights.now ≡ length literals.now) }
     ensures { said_size result ≡ size_in first (row_on first kind bound weights.now literals.now) }
 {
     if !term_checks::indexed_of(literals) {
-        return RowSize::Refused(NO_ROW);
+        return Err(Fault { number: NO_ROW });
     }
-    match terms_length(weights, literals, first) {
-        TermsLength::Is(length) => RowSize::Is(Size {
-            terms: literals.len() as u64,
-            length: house_lengths::line_length(kind, literals.len(), bound, length),
-        }),
-        TermsLength::OutOfRange => RowSize::Refused(NO_NUMBER),
-    }
+    let length = terms_length(weights, literals, first).ok_or(Fault { number: NO_NUMBER })?;
+    Ok(Size {
+        terms: literals.len() as u64,
+        length: house_lengths::line_length(kind, literals.len(), bound, length),
+    })
 }
 
 // A row of a table: a comment is listed as it is; a kind that the reader does not give is refused.
@@ -63,21 +52,21 @@ fn measure_row(
     weights: &[i64],
     literals: &[u32],
     first: u32,
-) -> RowSize
+) -> Result<Size, Fault>
     ensures { said_size result ≡ size_in first (line_on first weights.now literals.now (record { kind = kind; first = start; count = count; bound = bound })) }
 {
     if kind == COMMENT {
-        return RowSize::Is(Size {
+        return Ok(Size {
             terms: 0,
             length: house_lengths::line_length(kind, count, bound, 0),
         });
     }
     if kind > OBJECTIVE {
-        return RowSize::Refused(NO_ROW);
+        return Err(Fault { number: NO_ROW });
     }
     let room = columns::term_room(weights, literals);
     if !columns::in_column(start, count, room) {
-        return RowSize::Refused(NO_ROW);
+        return Err(Fault { number: NO_ROW });
     }
     let end = start + count;
     measure_line(
@@ -89,6 +78,7 @@ fn measure_row(
     )
 }
 
+// How many rows, and their sizes together; or the first row that is refused.
 pub fn measure_rows(
     kinds: &[u8],
     firsts: &[usize],
@@ -98,33 +88,31 @@ pub fn measure_rows(
     literals: &[u32],
     rows: usize,
     first: u32,
-) -> Measured
+) -> Result<(usize, Size), Refusal>
     ensures { said_measured result ≡ sizes_in first (lines_of first rows (table kinds.now firsts.now counts.now bounds.now weights.now literals.now)) }
 {
-    let n = columns::lesser(rows, columns::row_room(kinds, firsts, counts, bounds));
+    let n = rows.min(columns::row_room(kinds, firsts, counts, bounds));
     let mut all = Size {
         terms: 0,
         length: 0,
     };
-    let mut i: usize = 0;
-    while i < n {
+    for i in 0..n {
         match measure_row(
             kinds[i], firsts[i], counts[i], bounds[i], weights, literals, first,
         ) {
-            RowSize::Is(size) => {
+            Ok(size) => {
                 all = Size {
                     terms: add_needed(all.terms, size.terms),
                     length: add_needed(all.length, size.length),
                 };
             }
-            RowSize::Refused(number) => {
-                return Measured::Refused(Refusal {
-                    number,
+            Err(fault) => {
+                return Err(Refusal {
+                    number: fault.number,
                     place: i as u64,
                 });
             }
         }
-        i += 1;
     }
-    Measured::Lines(n, all)
+    Ok((n, all))
 }

@@ -7,7 +7,6 @@ ghost use Rattle.house_lengths.specs.Lengths.{line_length};
 ghost use Rattle.listing_lengths.specs.Measure.{fields_length};
 
 use definitions::{Beginning, Entry, Options};
-use house_lengths::TermLength;
 use pieces::NextTerm;
 
 // The fields of the terms that stand at the front of s. A literal that was read has a file number, so each has a
@@ -26,8 +25,7 @@ fn sum_length(s: &[u8], options: Options) -> u64
                 literal,
                 taken,
             } => {
-                let TermLength::Is(n) = house_lengths::term_length(weight, literal, options.first)
-                else {
+                let Some(n) = house_lengths::term_length(weight, literal, options.first) else {
                     return 0;
                 };
                 total = lengths::add_needed(total, n as u64);

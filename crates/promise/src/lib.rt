@@ -56,11 +56,11 @@ pub fn there_and_back(
             terms,
         } => {
             // Both accept, as was foreseen.
-            writer::write_opb_lines(
+            let _ = writer::write_opb_lines(
                 kinds, firsts, counts, bounds, weights, literals, text, mode, out,
             );
             let first = mode.first;
-            reader::parse_opb_data(
+            let _ = reader::parse_opb_data(
                 &out[..length],
                 Options { first },
                 newkinds,

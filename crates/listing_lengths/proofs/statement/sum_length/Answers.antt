@@ -106,4 +106,4 @@ loop-weight-smaller c =
 pub loop-weight-preserved : goal.loop-weight-preserved
 loop-weight-preserved c =
     sum-term _ _ _ _ (turn (here (goal.at.loop-weight-preserved c).After-term_length)).loop-weight.invariant (found (goal.at.loop-weight-preserved c).After-term_length) (bytes (goal.at.loop-weight-preserved c).After-term_length) (step-item (goal.at.loop-weight-preserved c).After-term_length) _ _
-    (sym (ap said_term_length c.in-Is.is) ∙ length-is (goal.at.loop-weight-preserved c).After-term_length) c.add_needed-total.ensures
+    (sym (ap said_term_length c.in-Some.is) ∙ length-is (goal.at.loop-weight-preserved c).After-term_length) c.add_needed-total.ensures
