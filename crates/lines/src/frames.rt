@@ -8,7 +8,7 @@ ghost use Rattle.printed.specs.Bounds.{printed_bound};
 ghost use Rattle.lines.specs.LinePieces.{final_bound, operator_piece, comparison_pieces, offset_pieces, ending_pieces};
 
 use definitions::Kind;
-use printed::{Bound, printed_bound};
+use printed::printed_bound;
 use puts::{put_number, put_text};
 use shown::Sums;
 
@@ -16,10 +16,7 @@ use shown::Sums;
 pub(crate) fn final_bound(kind: Kind, bound: i64, sums: Sums) -> i64
     ensures { result ≡ final_bound (printed_bound kind bound sums.total sums.fall) }
 {
-    match printed_bound(kind, bound, sums) {
-        Bound::Is(z) => z,
-        Bound::Beyond => 0,
-    }
+    printed_bound(kind, bound, sums).unwrap_or(0)
 }
 
 fn is_equal(kind: Kind) -> bool

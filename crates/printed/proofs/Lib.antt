@@ -1,4 +1,3 @@
-pub mod Sorts
 pub mod Differences
 pub mod PrintedRows
 pub mod PrintedTexts

@@ -1,18 +1,17 @@
 -- Each public function has one possible answer for each input: two that its contract allows are equal.
 use mathlib.Core.Path.{◌≡◌, sym, ◌∙◌}
 use Rattle.definitions.proofs.Truths.{never}
-use Rattle.printed.specs.declared.bounds.Bound.{Bound}
-use Rattle.printed.specs.declared.bounds.Bound.TheVariants.{Is, Beyond}
+use Rattle.std.specs.Prelude.{ℤ, Option, Some, None}
 use Rattle.printed.specs.Bounds.{said_bound}
 use Rattle.printed.proofs.kinds.sort_of.Reads as sort-of
 use Rattle.printed.proofs.kinds.style_of.Reads as style-of
 use Rattle.printed.proofs.bounds.printed_bound.Reads as printed-bound
 
-pub said-bound-one : (r r' : Bound) → said_bound r ≡ said_bound r' → r ≡ r'
-said-bound-one (Is x) (Is y) e = cc
-said-bound-one (Is x) Beyond e = never (cc)
-said-bound-one Beyond (Is y) e = never (cc)
-said-bound-one Beyond Beyond e = cc
+pub said-bound-one : (r r' : Option ℤ) → said_bound r ≡ said_bound r' → r ≡ r'
+said-bound-one (Some x) (Some y) e = cc
+said-bound-one (Some x) None e = never (cc)
+said-bound-one None (Some y) e = never (cc)
+said-bound-one None None e = cc
 
 pub sort-of-one : (κs : _) (a : _) (r r' : _) (s s' : _) → sort-of.Post κs a r s → sort-of.Post κs a r' s' → r ≡ r'
 sort-of-one κs a r r' s s' p q = p ∙ sym q

@@ -18,8 +18,9 @@ use Rattle.definitions.specs.declared.Kind.{Kind}
 use Rattle.definitions.specs.declared.Kind.TheVariants.{AtLeast as at_least}
 use Rattle.definitions.proofs.Accepted.{indexed-units}
 use Rattle.term_checks.proofs.Terms.{terms-at}
-use Rattle.printed.specs.declared.kinds.Sort as said
-use Rattle.printed.specs.declared.kinds.Sort.TheVariants.{Comment, Row, Refused}
+use Rattle.std.specs.Prelude.{Option, Some, None, Result, Ok, Err}
+use Rattle.definitions.specs.declared.Fault.{Fault}
+use Rattle.printed.specs.declared.kinds.Shape.{Shape}
 use Rattle.printed.specs.Kinds.{weighted_sort, cardinality_sort, sort_said}
 use Rattle.shown.specs.Terms.{own_term, own_terms}
 use Rattle.printed.specs.Rows.{entry_of, on_columns}
@@ -35,12 +36,12 @@ own_is ws cs k f n b unit = ap (map (own_term unit)) (terms-at (on_columns ws cs
 
 -- ---- what an entry asks to be written, by the code's sort
 
-abbrev pub item_for : said.Sort → Table → List ℕ → Entry → Checked Item
-item_for Comment t text e = item_by remark t text e
-item_for (Row s) t text e =
+abbrev pub item_for : Result (Option Shape) Fault → Table → List ℕ → Entry → Checked Item
+item_for (Ok None) t text e = item_by remark t text e
+item_for (Ok (Some s)) t text e =
     cond (in_column t e && (indexed (map (own_term s.unit) (terms_at t e)) && weighs (map (own_term s.unit) (terms_at t e))))
     (accept (line (row_of s.kind s.bound (map (own_term s.unit) (terms_at t e))))) (refuse 11)
-item_for Refused t text e = refuse 11
+item_for (Err f) t text e = refuse f.number
 
 unit-weighs : (ts : List Term) → weighs (map unit_term ts) ≡ true
 unfolding weighs unit_term
@@ -52,7 +53,7 @@ module _ (t : Table) (text : List ℕ) (e : Entry) where
   terms = terms_at t e
 
   unit-item : (k : Kind) (b : ℤ) → cond (in_column t e && indexed terms) (accept (line (row_of k b (map unit_term terms)))) (refuse 11)
-      ≡ item_for (Row (record { kind = k; unit = true; bound = b })) t text e
+      ≡ item_for (Ok (Some (record { kind = k; unit = true; bound = b }))) t text e
   unit-item k b = rw (indexed-units terms, unit-weighs terms, and-true (indexed terms))
 
   cardinality-item : (k : Kind) (b : ℤ)
@@ -74,7 +75,7 @@ module _ (t : Table) (text : List ℕ) (e : Entry) where
   item-is (cardinality k) = cardinality-item k e.bound
 
   -- s is what the number in the column of kinds says
-  pub written-by : (m : Mode) (s : said.Sort) → s ≡ sort_said (sort_of e.kind) e.bound
+  pub written-by : (m : Mode) (s : Result (Option Shape) Fault) → s ≡ sort_said (sort_of e.kind) e.bound
       → written_in m t text e ≡ and_then (item_for s t text e) (allowed m)
   unfolding written_in item_in
   written-by m s p = rw p (ap (λ (i : Checked Item). and_then i (allowed m)) (item-is (sort_of e.kind)))

@@ -1,22 +1,20 @@
 -- The bound that is printed, from the row's bound, the sum of its weights, and the sum of those that the bound falls
 -- by.
-use Rattle.std.specs.Prelude.{ℕ, cond, leb, ℤ, pos, ◌+ℤ◌, ◌-ℤ◌}
+use Rattle.std.specs.Prelude.{ℕ, cond, leb, ℤ, pos, ◌+ℤ◌, ◌-ℤ◌, Option, Some, None}
 use Rattle.definitions.specs.Limits.{weight_limit, in_i64}
 use Rattle.definitions.specs.Refusal.{Checked, refuse, accept}
 use Rattle.definitions.specs.Table.{and_then}
 use Rattle.definitions.specs.declared.Kind.{Kind}
 use Rattle.definitions.specs.Back.{is_goal}
 use Rattle.printed.specs.Kinds.{is_at_most}
-use Rattle.printed.specs.declared.bounds.Bound as code
-use Rattle.printed.specs.declared.bounds.Bound.TheVariants.{Is, Beyond}
 
 -- 8: "a result beyond signed 64 bits"
 unfoldable pub within : ℤ → Checked ℤ
 within z = cond (in_i64 z) (accept z) (refuse 8)
 
-abbrev pub said_bound : code.Bound → Checked ℤ
-said_bound (Is z) = accept z
-said_bound Beyond = refuse 8
+abbrev pub said_bound : Option ℤ → Checked ℤ
+said_bound (Some z) = accept z
+said_bound None = refuse 8
 
 -- "bound = weight sum less bound"
 abbrev pub bound_before : Kind → ℤ → ℕ → ℤ

@@ -5,45 +5,27 @@ ghost use Rattle.definitions.specs.Back.{is_goal};
 ghost use Rattle.definitions.specs.Table.{sort_of};
 ghost use Rattle.printed.specs.Kinds.{is_at_most, style_of, weighted_sort, cardinality_sort, sort_said};
 
-use definitions::{Kind, Mode};
+use definitions::{Fault, Kind, Mode};
 use shown::Style;
 
 // A row that is no comment: its kind, whether every weight is 1, and its bound.
-#[derive(Clone, Copy)]
+#[derive(Clone, Copy, Debug, PartialEq, Eq)]
 pub struct Shape {
     pub kind: Kind,
     pub unit: bool,
     pub bound: i64,
 }
 
-#[derive(Clone, Copy)]
-pub enum Sort {
-    Comment,
-    Row(Shape),
-    // 11
-    Refused,
-}
-
 pub(crate) fn is_at_most(kind: Kind) -> bool
     ensures { result ≡ is_at_most kind }
 {
-    match kind {
-        Kind::AtLeast => false,
-        Kind::AtMost => true,
-        Kind::Equal => false,
-        Kind::Objective => false,
-    }
+    kind == Kind::AtMost
 }
 
 pub(crate) fn is_objective(kind: Kind) -> bool
     ensures { result ≡ is_goal kind }
 {
-    match kind {
-        Kind::AtLeast => false,
-        Kind::AtMost => false,
-        Kind::Equal => false,
-        Kind::Objective => true,
-    }
+    kind == Kind::Objective
 }
 
 pub fn style_of(shape: Shape, mode: Mode) -> Style
@@ -61,38 +43,37 @@ pub fn style_of(shape: Shape, mode: Mode) -> Style
     }
 }
 
-fn weighted(kind: Kind, bound: i64) -> Sort
+fn weighted(kind: Kind, bound: i64) -> Result<Option<Shape>, Fault>
     ensures { result ≡ weighted_sort kind bound }
 {
-    let shape = Shape {
+    Ok(Some(Shape {
         kind,
         unit: false,
         bound,
-    };
-    Sort::Row(shape)
+    }))
 }
 
 // "a negative cardinality bound": 11
-fn cardinality(kind: Kind, bound: i64) -> Sort
+fn cardinality(kind: Kind, bound: i64) -> Result<Option<Shape>, Fault>
     ensures { result ≡ cardinality_sort kind bound }
 {
     if bound < 0 {
-        return Sort::Refused;
+        return Err(Fault { number: 11 });
     }
-    let shape = Shape {
+    Ok(Some(Shape {
         kind,
         unit: true,
         bound,
-    };
-    Sort::Row(shape)
+    }))
 }
 
-// "a clause's bound is taken as 1, its bound column is not looked at either"
-pub fn sort_of(kind: u8, bound: i64) -> Sort
+// None: a comment. "a clause's bound is taken as 1, its bound column is not looked at either"
+#[tactic(auto, unfolding(definitions::specs::Table::sort_of))]
+pub fn sort_of(kind: u8, bound: i64) -> Result<Option<Shape>, Fault>
     ensures { result ≡ sort_said (sort_of kind) bound }
 {
     match kind {
-        0 => Sort::Comment,
+        0 => Ok(None),
         1 => weighted(Kind::AtLeast, bound),
         2 => weighted(Kind::AtMost, bound),
         3 => weighted(Kind::Equal, bound),
@@ -101,6 +82,6 @@ pub fn sort_of(kind: u8, bound: i64) -> Sort
         6 => cardinality(Kind::AtLeast, bound),
         7 => cardinality(Kind::AtMost, bound),
         8 => cardinality(Kind::Equal, bound),
-        _ => Sort::Refused,
+        _ => Err(Fault { number: 11 }),
     }
 }

@@ -5,5 +5,5 @@
 mod bounds;
 mod kinds;
 
-pub use bounds::{Bound, printed_bound};
-pub use kinds::{Shape, Sort, sort_of, style_of};
+pub use bounds::printed_bound;
+pub use kinds::{Shape, sort_of, style_of};

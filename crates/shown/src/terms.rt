@@ -7,7 +7,7 @@ ghost use Rattle.shown.specs.Terms.{flipped_code, own_weight, own_term, Shows};
 use literals::{Lit, Var};
 
 // How the terms of a row are written.
-#[derive(Clone, Copy)]
+#[derive(Clone, Copy, Debug, PartialEq, Eq)]
 pub struct Style {
     // "Clause and cardinality rows have every weight 1, the weight column is not looked at."
     pub unit: bool,
