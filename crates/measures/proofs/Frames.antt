@@ -1,29 +1,32 @@
--- What stands around the terms of a row: how long it is, and how many lines come back of it.
+-- What stands around the terms of a row: how long it is.
 use mathlib.Core.Path.{◌≡◌, refl, ap}
 use mathlib.Core.Bool.{Bool, true, false}
 use mathlib.Core.List.{List, ◌++◌}
-use Prim.Native.Nat.{zero, suc, ◌+◌}
+use mathlib.Core.Logic.{◌⊎◌, inl, inr}
+use Prim.Native.Nat.{◌+◌}
 use native.Mathlib.Omega.{arith}
-use lib.IntN.{ℤ, pos, negsuc}
+use lib.IntN.{ℤ, pos}
 use lib.ListN.{length, length-append}
 use Rattle.definitions.specs.Bytes.{min_text}
 use Rattle.definitions.specs.Number.{integer_text}
 use Rattle.definitions.specs.Row.{Term, Row, row_of}
 use Rattle.definitions.specs.Write.{closed, offset_text, comparison_text, row_text, printed}
 use Rattle.definitions.specs.declared.Kind.{Kind}
-use Rattle.definitions.specs.declared.Kind.TheVariants.{AtLeast as at_least, Equal as equal, Objective as objective}
+use Rattle.definitions.specs.declared.Kind.TheVariants.{AtLeast as at_least, AtMost as at_most, Equal as equal, Objective as objective}
 use Rattle.definitions.specs.Back.{is_goal}
 use Rattle.shown.specs.declared.terms.Style.{Style}
 use Rattle.printed.specs.Kinds.{is_at_most}
 use Rattle.shown.specs.Terms.{terms_text}
 use Rattle.printed.specs.Rows.{operator_text}
 use Rattle.printed.proofs.PrintedTexts.{comparison-length, offset-length, constraint-text, objective-text}
-use Rattle.measures.specs.Rows.{frame_text, frame_lines}
+use Rattle.measures.specs.Rows.{frame_text}
+
+-- of an "at least" or an "at most" row
+pub frame-at-least : (k : Kind) (z : ℤ) → (k ≡ at_least) ⊎ (k ≡ at_most) → length (frame_text k z) ≡ length (integer_text z) + 5
+frame-at-least k z (inl e) = rw e (omega (arith, comparison-length z (operator_text at_least)))
+frame-at-least k z (inr e) = rw e (omega (arith, comparison-length z (operator_text at_most)))
 
 module _ (z : ℤ) where
-  pub frame-at-least : length (frame_text at_least z) ≡ length (integer_text z) + 5
-  frame-at-least = omega (arith, comparison-length z (operator_text at_least))
-
   pub frame-equal : length (frame_text equal z) ≡ length (integer_text z) + 4
   frame-equal = omega (arith, comparison-length z (operator_text equal))
 
@@ -33,15 +36,6 @@ module _ (z : ℤ) where
 
   pub frame-offset : (z ≡ pos 0 → ⊥) → length (frame_text objective z) ≡ length (integer_text z) + 50
   frame-offset h = omega (arith, offset-length z h)
-
--- the lines that come back of it
-pub lines-no-offset : (z : ℤ) → z ≡ pos 0 → 1 ≡ frame_lines objective z
-lines-no-offset z e = rw e
-
-pub lines-offset : (z : ℤ) → (z ≡ pos 0 → ⊥) → 2 ≡ frame_lines objective z
-lines-offset (pos zero) h = absurd (h refl)
-lines-offset (pos (suc n)) h = refl
-lines-offset (negsuc n) h = refl
 
 -- ---- the whole of a row
 

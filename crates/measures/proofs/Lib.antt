@@ -5,4 +5,5 @@ pub mod Measures
 pub mod OneEntry
 pub mod Comments
 pub mod Counting
+pub mod Handed
 pub mod OneAnswer

@@ -9,6 +9,8 @@ use borrow.Author.Tests.{ne_eqb, le-leb}
 use lib.Dec.{leb, eqb}
 use lib.IntN.{ℤ}
 use lib.ListN.{length, length-map}
+use Rattle.std.specs.Prelude.{Option, Some, None, Err}
+use Rattle.std.specs.Option.{ok_or}
 use Rattle.definitions.specs.Refusal.{Checked, refuse, accept, needed}
 use Rattle.definitions.specs.Row.{Term, Row}
 use Rattle.definitions.specs.Table.{indexed, terms_on}
@@ -17,7 +19,7 @@ use Rattle.definitions.specs.Back.{lines_back}
 use Rattle.definitions.specs.declared.Mode.{Mode}
 use Rattle.definitions.specs.declared.Kind.{Kind}
 use Rattle.definitions.specs.declared.Kind.TheVariants.{AtLeast as at_least, AtMost as at_most, Equal as equal, Objective as objective}
-use Rattle.definitions.proofs.Truths.{both}
+use Rattle.definitions.proofs.Truths.{both, never}
 use Rattle.term_checks.proofs.Terms.{terms-count}
 use Rattle.shown.specs.declared.terms.Style.{Style}
 use Rattle.measures.specs.declared.terms.Tally.{Tally}
@@ -32,6 +34,11 @@ use Rattle.measures.specs.Rows.{measured, row_measured, frame_text, lacks_terms,
 use Rattle.measures.proofs.TallyLaws.{counted, tallied-is, counted-sums, counted-numbered, counted-length}
 use Rattle.printed.proofs.PrintedRows.{bound-by-sums}
 use Rattle.measures.proofs.Frames.{row-text-length}
+
+-- an error that stands for None
+pub refused-by : {A E : Type 0} (o : Option A) (e f : E) → Err f ≡ ok_or o e → (o ≡ None) × (f ≡ e)
+refused-by None e f h = (refl, cc)
+refused-by (Some x) e f h = never cc
 
 -- ---- the order of refusals, as the code asks
 

@@ -15,7 +15,7 @@ use Rattle.definitions.specs.declared.Entry.{Entry}
 use Rattle.definitions.specs.Write.{weighs, say, line, item_text, one_line, row_allowed, allowed}
 use Rattle.definitions.specs.declared.Mode.{Mode}
 use Rattle.printed.specs.declared.kinds.Shape.{Shape}
-use Rattle.printed.specs.declared.kinds.Sort.TheVariants.{Comment, Row}
+use Rattle.std.specs.Prelude.{Some, None, Ok}
 use Rattle.shown.specs.Terms.{own_terms}
 use Rattle.printed.specs.Rows.{row_on, entry_of, on_columns}
 use Rattle.printed.proofs.PrintedTexts.{remark-length}
@@ -43,7 +43,7 @@ module _ (m : Mode) (ws : List ℤ) (cs : List ℕ) (text : List ℕ) (k f n : �
   abbrev part : List ℕ
   part = take n (drop f text)
 
-  pub measured-comment : measured m (and_then (item_for Comment columns text asked) (allowed m)) ≡ comment_measured f n text
+  pub measured-comment : measured m (and_then (item_for (Ok None) columns text asked) (allowed m)) ≡ comment_measured f n text
   unfolding item_text
   measured-comment = by (leb (f + n) (length text)) (one_line part) (leb-true (f + n) (length text))
     where
@@ -57,7 +57,7 @@ module _ (m : Mode) (ws : List ℤ) (cs : List ℕ) (text : List ℕ) (k f n : �
       by true false h = refl
       by false q h = refl
 
-  pub measured-row : (s : Shape) → measured m (and_then (item_for (Row s) columns text asked) (allowed m)) ≡ part_measured s f n ws cs m
+  pub measured-row : (s : Shape) → measured m (and_then (item_for (Ok (Some s)) columns text asked) (allowed m)) ≡ part_measured s f n ws cs m
   unfolding row_measured
   measured-row s = rw (own_is ws cs k f n b s.unit) (by (leb (f + n) (min (length ws) (length cs))) (indexed own && weighs own))
     where

@@ -1,19 +1,18 @@
 -- One row in the code's words: what the first walk says of it.
-use Rattle.std.specs.Prelude.{ℕ, ◌+◌, Bool, cond, not, ◌&&◌, List, ◌++◌, eqb, ℤ, length}
+use Rattle.std.specs.Prelude.{ℕ, ◌+◌, Bool, cond, not, ◌&&◌, List, ◌++◌, eqb, ℤ, length, Result, Ok, Err}
 use Rattle.definitions.specs.Refusal.{Checked, refuse, accept, needed}
 use Rattle.definitions.specs.Bytes.{min_text}
 use Rattle.definitions.specs.Row.{Row}
 use Rattle.definitions.specs.Table.{indexed}
 use Rattle.definitions.specs.Write.{closed, offset_text, comparison_text, Item, item_text, weighs, row_allowed}
 use Rattle.definitions.specs.Back.{is_goal, offset_line, lines_back, terms_back}
+use Rattle.definitions.specs.declared.Fault.{Fault}
 use Rattle.definitions.specs.declared.Mode.{Mode}
 use Rattle.definitions.specs.declared.Kind.{Kind}
 use Rattle.printed.specs.declared.kinds.Shape.{Shape}
 use Rattle.printed.specs.Bounds.{printed_bound}
 use Rattle.printed.specs.Rows.{operator_text}
 use Rattle.measures.specs.declared.terms.Tally.{Tally}
-use Rattle.measures.specs.declared.rows.Measured as code
-use Rattle.measures.specs.declared.rows.Measured.TheVariants.{Is, Refused}
 use Rattle.measures.specs.declared.rows.Extent.{Extent}
 
 -- what an item comes to: the length of its text, up to the limit of a needed number, and the lines and terms that come
@@ -28,9 +27,9 @@ measured m (accept i) = accept (extent_of m i)
 unfoldable pub row_measured : Mode → Row → Checked Extent
 row_measured m r = cond (indexed r.terms && weighs r.terms) (measured m (row_allowed m r)) (refuse 11)
 
-abbrev pub said_measured : code.Measured → Checked Extent
-said_measured (Is x) = accept x
-said_measured (Refused n) = refuse n
+abbrev pub said_measured : Result Extent Fault → Checked Extent
+said_measured (Ok x) = accept x
+said_measured (Err f) = refuse f.number
 
 -- ---- what stands around the terms
 

@@ -1,14 +1,13 @@
 -- The rows of a table: what each asks to be written, and what all of them come to.
-use Rattle.std.specs.Prelude.{ℕ, ◌+◌, List, length}
+use Rattle.std.specs.Prelude.{ℕ, ◌+◌, List, length, Result, Ok, Err}
 use Rattle.definitions.specs.Lists.{joined, total}
 use Rattle.definitions.specs.Refusal.{needed}
 use Rattle.definitions.specs.Table.{Table, Outcome, refused, accepted, entries, row_by_row}
 use Rattle.definitions.specs.Write.{Item, item_text, written_in}
 use Rattle.definitions.specs.Back.{lines_back, terms_back}
 use Rattle.definitions.specs.declared.Mode.{Mode}
+use Rattle.definitions.specs.declared.Refusal.{Refusal}
 use Rattle.measures.specs.declared.rows.Extent.{Extent}
-use Rattle.measures.specs.declared.Measure as code
-use Rattle.measures.specs.declared.Measure.TheVariants.{Lines, Refused}
 
 -- "Row by row": what each row asks to be written, or the first refusal
 abbrev pub items_for : Mode → Table → List ℕ → Outcome (List Item)
@@ -17,9 +16,9 @@ items_for m t text = row_by_row (written_in m t text) 0 (entries t)
 abbrev pub lines_of : Mode → List Item → List ℕ
 lines_of m is = joined (item_text m) is
 
-abbrev pub said_measure : code.Measure → Outcome Extent
-said_measure (Lines x) = accepted x
-said_measure (Refused r) = refused r
+abbrev pub said_measure : Result Extent Refusal → Outcome Extent
+said_measure (Ok x) = accepted x
+said_measure (Err r) = refused r
 
 -- "A needed number above 18,446,744,073,709,551,615 is given as that one": so of each of the three
 abbrev pub added_to : Extent → Extent → Extent

@@ -1,6 +1,6 @@
 -- What the first walk counts of a row's terms, term by term: the sums of weights up to a cap, whether each has a file
 -- number, and the length of their text.
-use Rattle.std.specs.Prelude.{ℕ, ◌+◌, Bool, true, false, cond, ◌&&◌, List, [], ◌∷◌, length}
+use Rattle.std.specs.Prelude.{ℕ, ◌+◌, Bool, true, false, cond, ◌&&◌, List, [], ◌∷◌, length, Option, Some, None}
 use Rattle.std.specs.Int.Signed.{non_neg}
 use Rattle.definitions.specs.Refusal.{Checked, refuse, accept, needed}
 use Rattle.definitions.specs.Literal.{index_of, is_index, file_number}
@@ -11,8 +11,6 @@ use Rattle.shown.specs.declared.terms.Shown.{Shown}
 use Rattle.shown.specs.Terms.{fallen, term_words, shown_text}
 use Rattle.shown.specs.Sums.{no_sums, sums_with}
 use Rattle.measures.specs.declared.terms.Tally.{Tally}
-use Rattle.measures.specs.declared.terms.Tallied as code
-use Rattle.measures.specs.declared.terms.Tallied.TheVariants.{Is, Refused}
 
 abbrev pub no_tally : Tally
 no_tally = record { sums = no_sums; numbered = true; length = 0 }
@@ -57,6 +55,6 @@ unfoldable pub tallied : Style → Tally → List Term → Checked Tally
 tallied s a [] = accept a
 tallied s a (t ∷ ts) = cond (lawful t) (tallied s (tally_with s a t) ts) (refuse 11)
 
-abbrev pub said_tally : code.Tallied → Checked Tally
-said_tally (Is t) = accept t
-said_tally Refused = refuse 11
+abbrev pub said_tally : Option Tally → Checked Tally
+said_tally (Some t) = accept t
+said_tally None = refuse 11

@@ -1,41 +1,27 @@
 // One row of the table, comments too: its refusal, or what it comes to. Assumes nothing.
 ghost use Rattle.std.specs.Prelude.{◌≡◌};
-ghost use Rattle.definitions.specs.Write.{one_line, written_in};
+ghost use Rattle.definitions.specs.Write.{written_in};
 ghost use Rattle.printed.specs.Rows.{entry_of, on_columns};
 ghost use Rattle.measures.specs.Rows.{measured, said_measured};
 ghost use Rattle.measures.specs.Entries.{comment_measured, part_measured};
 
-use crate::rows::{Extent, Measured, row_length};
-use definitions::Mode;
-use printed::{Shape, Sort, sort_of};
+use crate::rows::{Extent, row_length};
+use definitions::{Fault, Mode};
+use printed::{Shape, sort_of};
 
-// Not 15: "comment text with an LF".
-fn one_line(text: &[u8]) -> bool
-    ensures { result ≡ one_line text.now }
-{
-    let mut i: usize = 0;
-    while i < text.len() {
-        if text[i] == b'\n' {
-            return false;
-        }
-        i += 1;
-    }
-    true
-}
-
-// 11: "a comment outside its lent text"; behind the text stand `* ` and the line's end.
-fn comment_length(first: usize, count: usize, text: &[u8]) -> Measured
+// 11: "a comment outside its lent text"; 15: "comment text with an LF". Behind the text stand `* ` and the line's end.
+fn comment_length(first: usize, count: usize, text: &[u8]) -> Result<Extent, Fault>
     ensures { said_measured result ≡ comment_measured first count text.now }
 {
     if !columns::in_column(first, count, text.len()) {
-        return Measured::Refused(11);
+        return Err(Fault { number: 11 });
     }
     let end = first + count;
-    if !one_line(&text[first..end]) {
-        return Measured::Refused(15);
+    if text[first..end].contains(&b'\n') {
+        return Err(Fault { number: 15 });
     }
     let length = count as u64 + 3;
-    Measured::Is(Extent {
+    Ok(Extent {
         length,
         lines: 1,
         terms: 0,
@@ -50,12 +36,12 @@ fn part_length(
     weights: &[i64],
     literals: &[u32],
     mode: Mode,
-) -> Measured
+) -> Result<Extent, Fault>
     ensures { said_measured result ≡ part_measured shape first count weights.now literals.now mode }
 {
     let room = columns::term_room(weights, literals);
     if !columns::in_column(first, count, room) {
-        return Measured::Refused(11);
+        return Err(Fault { number: 11 });
     }
     let end = first + count;
     row_length(shape, &weights[first..end], &literals[first..end], mode)
@@ -70,12 +56,11 @@ pub(crate) fn entry_length(
     literals: &[u32],
     text: &[u8],
     mode: Mode,
-) -> Measured
+) -> Result<Extent, Fault>
     ensures { said_measured result ≡ measured mode (written_in mode (on_columns weights.now literals.now) text.now (entry_of kind first count bound)) }
 {
-    match sort_of(kind, bound) {
-        Sort::Comment => comment_length(first, count, text),
-        Sort::Row(shape) => part_length(shape, first, count, weights, literals, mode),
-        Sort::Refused => Measured::Refused(11),
+    match sort_of(kind, bound)? {
+        None => comment_length(first, count, text),
+        Some(shape) => part_length(shape, first, count, weights, literals, mode),
     }
 }

@@ -14,14 +14,6 @@ use definitions::{Mode, Refusal};
 use entries::entry_length;
 use lengths::add_needed;
 pub use rows::Extent;
-use rows::Measured;
-
-// What the first walk says of all rows: what they come to, or the first refusal and its row.
-#[derive(Clone, Copy)]
-pub enum Measure {
-    Lines(Extent),
-    Refused(Refusal),
-}
 
 fn add_extent(all: Extent, more: Extent) -> Extent
     ensures { result ≡ added_to all more }
@@ -33,7 +25,8 @@ fn add_extent(all: Extent, more: Extent) -> Extent
     }
 }
 
-// What would be written, and what of it would come back, whatever room there is for it.
+// What all rows come to: what would be written, and what of it would come back, whatever room there is for it; or the
+// first refusal and its row.
 pub fn measure_opb_lines(
     kinds: &[u8],
     firsts: &[usize],
@@ -43,18 +36,16 @@ pub fn measure_opb_lines(
     literals: &[u32],
     text: &[u8],
     mode: Mode,
-) -> Measure
+) -> Result<Extent, Refusal>
     ensures { said_measure result ≡ extent_for mode (table kinds.now firsts.now counts.now bounds.now weights.now literals.now) text.now }
 {
-    let rows = columns::row_room(kinds, firsts, counts, bounds);
     let mut all = Extent {
         length: 0,
         lines: 0,
         terms: 0,
     };
-    let mut row: usize = 0;
-    while row < rows {
-        match entry_length(
+    for row in 0..columns::row_room(kinds, firsts, counts, bounds) {
+        let more = entry_length(
             kinds[row],
             firsts[row],
             counts[row],
@@ -63,18 +54,12 @@ pub fn measure_opb_lines(
             literals,
             text,
             mode,
-        ) {
-            Measured::Is(more) => {
-                all = add_extent(all, more);
-            }
-            Measured::Refused(number) => {
-                return Measure::Refused(Refusal {
-                    number,
-                    place: row as u64,
-                });
-            }
-        }
-        row += 1;
+        )
+        .map_err(|fault| Refusal {
+            number: fault.number,
+            place: row as u64,
+        })?;
+        all = add_extent(all, more);
     }
-    Measure::Lines(all)
+    Ok(all)
 }

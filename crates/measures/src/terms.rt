@@ -9,18 +9,11 @@ use shown::{Shown, Style, Sums, show_term, with_weight};
 
 // What the first walk counts of a row's terms: whether each so far has a file number, and if so the length of their
 // text.
-#[derive(Clone, Copy)]
+#[derive(Clone, Copy, Debug, PartialEq, Eq)]
 pub(crate) struct Tally {
     pub sums: Sums,
     pub numbered: bool,
     pub length: u64,
-}
-
-#[derive(Clone, Copy)]
-pub(crate) enum Tallied {
-    Is(Tally),
-    // "an index above its limit", "a negative weight": 11
-    Refused,
 }
 
 // The length of a term's text, with the space before or behind it.
@@ -35,11 +28,7 @@ fn term_length(t: Shown, n: FileNumber) -> usize
 fn is_lawful(x: Shown) -> bool
     ensures { result ≡ lawful_shown x }
 {
-    if x.own < 0 {
-        return false;
-    }
-    let v = x.var;
-    v.in_limit()
+    x.own >= 0 && x.var.in_limit()
 }
 
 fn tally_shown(t: Tally, style: Style, x: Shown) -> Tally
@@ -62,25 +51,22 @@ fn tally_shown(t: Tally, style: Style, x: Shown) -> Tally
     }
 }
 
-// All terms of a row, whose part of each column is lent.
-pub(crate) fn tally_terms(style: Style, weights: &[i64], literals: &[u32]) -> Tallied
+// All terms of a row, whose part of each column is lent. None: "an index above its limit", "a negative weight", 11.
+pub(crate) fn tally_terms(style: Style, weights: &[i64], literals: &[u32]) -> Option<Tally>
     requires { length weights.now ≡ length literals.now }
     ensures { said_tally result ≡ tallied style no_tally (own_terms style.unit weights.now literals.now) }
 {
-    let none = Sums { total: 0, fall: 0 };
     let mut t = Tally {
-        sums: none,
+        sums: Sums { total: 0, fall: 0 },
         numbered: true,
         length: 0,
     };
-    let mut i: usize = 0;
-    while i < literals.len() {
-        let x = show_term(style, weights[i], literals[i]);
+    for (weight, code) in weights.iter().zip(literals) {
+        let x = show_term(style, *weight, *code);
         if !is_lawful(x) {
-            return Tallied::Refused;
+            return None;
         }
         t = tally_shown(t, style, x);
-        i += 1;
     }
-    Tallied::Is(t)
+    Some(t)
 }

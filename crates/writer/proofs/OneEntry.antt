@@ -21,7 +21,7 @@ use Rattle.laws.proofs.Puts.{Puts, puts-as}
 use Rattle.puts.specs.SeveralPuts.{LandsEach}
 use Rattle.puts.proofs.SeveralLaws.{all_of, each_puts}
 use Rattle.printed.specs.declared.kinds.Shape.{Shape}
-use Rattle.printed.specs.declared.kinds.Sort.TheVariants.{Comment, Row}
+use Rattle.std.specs.Prelude.{Some, None, Ok}
 use Rattle.shown.specs.Terms.{own_terms}
 use Rattle.printed.specs.Rows.{row_on, entry_of, on_columns}
 use Rattle.printed.proofs.OneEntry.{part-is, own_is, item_for}
@@ -56,7 +56,7 @@ module _ (m : Mode) (ws : List ℤ) (cs : List ℕ) (text : List ℕ) (k f n : �
   abbrev part : List ℕ
   part = take n (drop f text)
 
-  accepted-comment : (item : Item) → and_then (item_for Comment columns text asked) (allowed m) ≡ accept item
+  accepted-comment : (item : Item) → and_then (item_for (Ok None) columns text asked) (allowed m) ≡ accept item
       → (f + n ≤ length text) × (item ≡ say part)
   accepted-comment item = by (leb (f + n) (length text)) (one_line part) (leb-true (f + n) (length text))
     where
@@ -75,7 +75,7 @@ module _ (m : Mode) (ws : List ℤ) (cs : List ℕ) (text : List ℕ) (k f n : �
     bounds : bounded m (row_on s (take n (drop f ws)) (take n (drop f cs))) ≡ true
     is : item ≡ line (row_on s (take n (drop f ws)) (take n (drop f cs)))
 
-  accepted-row : (s : Shape) (item : Item) → and_then (item_for (Row s) columns text asked) (allowed m) ≡ accept item
+  accepted-row : (s : Shape) (item : Item) → and_then (item_for (Ok (Some s)) columns text asked) (allowed m) ≡ accept item
       → AcceptedRow s item
   accepted-row s item e =
       by (leb (f + n) (min (length ws) (length cs))) (indexed own && weighs own) (leb-true (f + n) (min (length ws) (length cs))) (λ q. q)
@@ -104,7 +104,7 @@ module _ (m : Mode) (ws : List ℤ) (cs : List ℕ) (text : List ℕ) (k f n : �
       pub puts : {q : ℕ} {o' : List ℕ} → LandsEach (remark_pieces (take (f + n - f) (drop f text))) at o q o'
           → Puts (entry_text m columns text asked) at o q o'
 
-    pub comment-ready : written_in m columns text asked ≡ and_then (item_for Comment columns text asked) (allowed m) → CommentReady
+    pub comment-ready : written_in m columns text asked ≡ and_then (item_for (Ok None) columns text asked) (allowed m) → CommentReady
     unfolding item_text
     comment-ready e =
         let a = accepted-comment r.item (sym e ∙ r.is) in
@@ -122,7 +122,7 @@ module _ (m : Mode) (ws : List ℤ) (cs : List ℕ) (text : List ℕ) (k f n : �
           → LandsEach (row_pieces m s (own_terms s.unit (take (f + n - f) (drop f ws)) (take (f + n - f) (drop f cs)))) at o q o'
           → Puts (entry_text m columns text asked) at o q o'
 
-    pub part-ready : (s : Shape) → written_in m columns text asked ≡ and_then (item_for (Row s) columns text asked) (allowed m) → PartReady s
+    pub part-ready : (s : Shape) → written_in m columns text asked ≡ and_then (item_for (Ok (Some s)) columns text asked) (allowed m) → PartReady s
     unfolding item_text
     part-ready s e =
         let a = accepted-row s r.item (sym e ∙ r.is) in
@@ -136,5 +136,5 @@ module _ (m : Mode) (ws : List ℤ) (cs : List ℕ) (text : List ℕ) (k f n : �
               (sym (ap (text_from m) r.is ∙ i)));
         }
 
-    pub never-refused {ℓ} : {X : Type ℓ} → written_in m columns text asked ≡ refuse 11 → X
+    pub never-refused {ℓ} : {X : Type ℓ} {i : ℕ} → written_in m columns text asked ≡ refuse i → X
     never-refused e = never (sym e ∙ r.is)

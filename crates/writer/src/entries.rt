@@ -6,7 +6,7 @@ ghost use Rattle.writer.specs.Entries.{remark_pieces, entry_text, EntryReady};
 
 use definitions::Mode;
 use lines::put_row;
-use printed::{Sort, sort_of};
+use printed::sort_of;
 use puts::put_text;
 
 // The text behind `* `, and the line's end.
@@ -34,11 +34,11 @@ pub(crate) fn write_entry(
     ensures { Puts (entry_text mode (on_columns weights.now literals.now) text.now (entry_of kind first count bound)) at out.old result out.new }
 {
     match sort_of(kind, bound) {
-        Sort::Comment => {
+        Ok(None) => {
             let end = first + count;
             put_remark(&text[first..end], out, at)
         }
-        Sort::Row(shape) => {
+        Ok(Some(shape)) => {
             let end = first + count;
             put_row(
                 shape,
@@ -49,6 +49,6 @@ pub(crate) fn write_entry(
                 at,
             )
         }
-        Sort::Refused => at,
+        Err(_) => at,
     }
 }

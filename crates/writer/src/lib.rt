@@ -13,7 +13,7 @@ ghost use Rattle.writer.specs.Writes.{Writes};
 
 use definitions::{Mode, Refusal};
 use entries::write_entry;
-use measures::{Measure, measure_opb_lines};
+use measures::measure_opb_lines;
 
 pub(crate) fn write_lines(
     kinds: &[u8],
@@ -31,12 +31,19 @@ pub(crate) fn write_lines(
 {
     let rows = columns::row_room(kinds, firsts, counts, bounds);
     let mut at: usize = 0;
-    let mut i: usize = 0;
-    while i < rows {
+    for row in 0..rows {
         at = write_entry(
-            kinds[i], firsts[i], counts[i], bounds[i], weights, literals, text, mode, out, at,
+            kinds[row],
+            firsts[row],
+            counts[row],
+            bounds[row],
+            weights,
+            literals,
+            text,
+            mode,
+            out,
+            at,
         );
-        i += 1;
     }
 }
 
@@ -53,20 +60,16 @@ pub fn write_opb_lines(
 ) -> Result<usize, Refusal>
     ensures { Writes mode (table kinds.now firsts.now counts.now bounds.now weights.now literals.now) text.now out.old result out.new }
 {
-    match measure_opb_lines(kinds, firsts, counts, bounds, weights, literals, text, mode) {
-        Measure::Refused(r) => Err(r),
-        Measure::Lines(all) => {
-            let length = all.length;
-            if length > out.len() as u64 {
-                return Err(Refusal {
-                    number: 14,
-                    place: length,
-                });
-            }
-            write_lines(
-                kinds, firsts, counts, bounds, weights, literals, text, mode, out,
-            );
-            Ok(length as usize)
-        }
+    let all = measure_opb_lines(kinds, firsts, counts, bounds, weights, literals, text, mode)?;
+    let length = all.length;
+    if length > out.len() as u64 {
+        return Err(Refusal {
+            number: 14,
+            place: length,
+        });
     }
+    write_lines(
+        kinds, firsts, counts, bounds, weights, literals, text, mode, out,
+    );
+    Ok(length as usize)
 }

@@ -23,18 +23,10 @@ returns-then-not-in_column c =
     comment-outside c.args.first c.args.count c.args.text.now
     (sym c.in_column.ensures ∙ c.if-not-in_column.true)
 
-pub overflow_add-end : goal.overflow_add-end
-overflow_add-end c = omega (arith, within c)
-
-pub slice_bounds-one_line-end : goal.slice_bounds-one_line-end
-slice_bounds-one_line-end c =
-    let h : c.args.first + c.args.count ≤ length c.args.text.now = within c in
-    h
-
-pub returns-then-not-one_line : goal.returns-then-not-one_line
-returns-then-not-one_line c =
-    comment-broken c.args.first c.args.count c.args.text.now (inside (goal.at.returns-then-not-one_line c).Else-not-in_column)
-    (sym c.one_line.ensures ∙ c.if-not-one_line.true)
+pub returns-then-contains : goal.returns-then-contains
+returns-then-contains c =
+    comment-broken c.args.first c.args.count c.args.text.now (inside (goal.at.returns-then-contains c).Else-not-in_column)
+    (sym c.contains.ensures.value ∙ c.if-contains.true)
 
 pub overflow_add-length : goal.overflow_add-length
 overflow_add-length c = omega (arith, within (goal.at.overflow_add-length c).Else-not-in_column, c.well_formed)
@@ -42,4 +34,4 @@ overflow_add-length c = omega (arith, within (goal.at.overflow_add-length c).Els
 pub returns : goal.returns
 returns c =
     comment-whole c.args.first c.args.count c.args.text.now (inside (goal.at.returns c).Else-not-in_column) (omega (arith, within (goal.at.returns c).Else-not-in_column, c.well_formed))
-    (sym c.one_line.ensures ∙ c.if-not-one_line.false)
+    (sym c.contains.ensures.value ∙ c.if-contains.false)

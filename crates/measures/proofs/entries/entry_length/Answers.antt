@@ -1,48 +1,33 @@
 -- `entry_length` meets its contract: a comment, a row, or what the writer does not know.
-use mathlib.Core.Path.{◌≡◌, sym, ap, ◌∙◌}
+use mathlib.Core.Path.{sym, ap, ◌∙◌}
 use mir.Facts.{to_z-of_z}
-use Rattle.definitions.specs.Table.{sort_of, and_then}
-use Rattle.definitions.specs.Write.{allowed, written_in}
-use Rattle.printed.specs.declared.kinds.Sort as said
-use Rattle.printed.specs.declared.kinds.Sort.TheVariants.{Comment, Row, Refused}
-use Rattle.printed.specs.Kinds.{sort_said}
+use Rattle.std.proofs.lemmas.Result.{err_from_is_err_and}
 use Rattle.measures.specs.Rows.{measured}
 use Rattle.printed.specs.Rows.{entry_of, on_columns}
-use Rattle.printed.proofs.OneEntry.{item_for, written-by}
+use Rattle.printed.proofs.OneEntry.{written-by}
 use Rattle.measures.proofs.OneEntry.{measured-comment, measured-row}
 use Rattle.measures.proofs.entries.entry_length.Goals as goal
-use Rattle.measures.proofs.entries.entry_length.Goals.{After-sort_of, Start}
 
-module _ (c : After-sort_of) where
-  abbrev start : Start
-  start = (goal.at.After-sort_of c).Start
+pub returns-in_err-sort_of : goal.returns-in_err-sort_of
+returns-in_err-sort_of c =
+    let a = c.args in
+    let p = err_from_is_err_and c.from_residual.result c.from_residual.ensures.1 in
+    let s = rw (to_z-of_z c.ranges.bound) at c.in_err-sort_of.ensures in
+    rw (p.1, p.2)
+    (sym (ap (measured a.mode) (written-by (on_columns a.weights.now a.literals.now) a.text.now (entry_of a.kind a.first a.count a.bound) a.mode _ s)))
 
-  sorted : c.sort_of.result ≡ sort_said (sort_of start.args.kind) start.args.bound
-  sorted = c.sort_of.ensures ∙ ap (sort_said (sort_of start.args.kind)) (to_z-of_z start.ranges.bound)
-
-  written : (s : said.Sort) → s ≡ sort_said (sort_of start.args.kind) start.args.bound
-      → written_in start.args.mode (on_columns start.args.weights.now start.args.literals.now) start.args.text.now
-      (entry_of start.args.kind start.args.first start.args.count start.args.bound)
-      ≡ and_then (item_for s (on_columns start.args.weights.now start.args.literals.now) start.args.text.now
-      (entry_of start.args.kind start.args.first start.args.count start.args.bound)) (allowed start.args.mode)
-  written s e = written-by (on_columns start.args.weights.now start.args.literals.now) start.args.text.now
-      (entry_of start.args.kind start.args.first start.args.count start.args.bound) start.args.mode s e
-
-pub returns-in-Comment : goal.returns-in-Comment
-returns-in-Comment c =
-    let a = (start (goal.at.returns-in-Comment c).After-sort_of).args in
+pub returns-in-None : goal.returns-in-None
+returns-in-None c =
+    let a = c.args in
+    let s = rw (c.in-None.is, to_z-of_z c.ranges.bound) at c.in_ok-sort_of.ensures in
     c.comment_length.ensures
-    ∙ sym (ap (measured a.mode) (written (goal.at.returns-in-Comment c).After-sort_of Comment (sym c.in-Comment.is ∙ sorted (goal.at.returns-in-Comment c).After-sort_of))
+    ∙ sym (ap (measured a.mode) (written-by (on_columns a.weights.now a.literals.now) a.text.now (entry_of a.kind a.first a.count a.bound) a.mode _ s)
     ∙ measured-comment a.mode a.weights.now a.literals.now a.text.now a.kind a.first a.count a.bound)
 
-pub returns-in-Row : goal.returns-in-Row
-returns-in-Row c =
-    let a = (start (goal.at.returns-in-Row c).After-sort_of).args in
-    let s = c.in-Row.shape in
+pub returns-in-Some : goal.returns-in-Some
+returns-in-Some c =
+    let a = c.args in
+    let s = rw (c.in-Some.is, to_z-of_z c.ranges.bound) at c.in_ok-sort_of.ensures in
     c.part_length.ensures
-    ∙ sym (ap (measured a.mode) (written (goal.at.returns-in-Row c).After-sort_of (Row s) (sym c.in-Row.is ∙ sorted (goal.at.returns-in-Row c).After-sort_of))
-    ∙ measured-row a.mode a.weights.now a.literals.now a.text.now a.kind a.first a.count a.bound s)
-
-pub returns-in-Refused : goal.returns-in-Refused
-returns-in-Refused c =
-    sym (ap (measured (start (goal.at.returns-in-Refused c).After-sort_of).args.mode) (written (goal.at.returns-in-Refused c).After-sort_of Refused (sym c.in-Refused.is ∙ sorted (goal.at.returns-in-Refused c).After-sort_of)))
+    ∙ sym (ap (measured a.mode) (written-by (on_columns a.weights.now a.literals.now) a.text.now (entry_of a.kind a.first a.count a.bound) a.mode _ s)
+    ∙ measured-row a.mode a.weights.now a.literals.now a.text.now a.kind a.first a.count a.bound c.in-Some.shape)

@@ -1,66 +1,53 @@
 -- `tally_terms` meets its contract: each turn counts one term (`Tallying`, proofs/Tallying.antt).
 use native.Mathlib.Omega.{arith}
-use mathlib.Core.Path.{sym, ap, ◌∙◌}
-use Prim.Native.Nat.{ℕ}
+use mathlib.Core.Path.{◌≡◌, sym, ◌∙◌}
+use mathlib.Core.List.{[], ◌∷◌}
+use Prim.Native.Nat.{ℕ, ◌<◌}
 use lib.IntN.{ℤ, pos}
-use lib.ListN.{get_or}
+use lib.ListN.{length, get_or, length-append}
+use borrow.Author.Rules.{rules}
 use mir.Syntax.{w64}
 use mir.Val.{SFits}
 use mir.Facts.{to_z-of_z}
+use Rattle.std.proofs.lemmas.Slice.Zip.{zip_turn, zip_end}
 use Rattle.definitions.specs.Row.{term}
 use Rattle.shown.specs.Terms.{own_term, Shows}
-use Rattle.shown.proofs.OneTerm.{shows-as}
-use Rattle.measures.proofs.Tallying.{tallying-none, tallying-refused, tallying-more, tallying-all}
+use Rattle.measures.proofs.Tallying.{tallying-refused, tallying-more, tallying-all}
 use Rattle.measures.proofs.terms.tally_terms.Goals as goal
-use Rattle.measures.proofs.terms.tally_terms.Goals.{After-show_term-x, At-loop-i, Start}
+use Rattle.measures.proofs.terms.tally_terms.Goals.{After-show_term-x}
 
--- the term at i
+-- the term of this turn
 module _ (c : After-show_term-x) where
-  abbrev turn : At-loop-i
-  turn = (goal.at.After-show_term-x c).At-loop-i
+  turn : (length c.loop-weight.yielded < length c.args.weights.now) × (length c.loop-weight.yielded < length c.args.literals.now)
+      × ((d : ℤ) → c.in-Some.weight.now ≡ get_or c.args.weights.now (length c.loop-weight.yielded) d)
+      × ((d : ℕ) → c.in-Some.code.now ≡ get_or c.args.literals.now (length c.loop-weight.yielded) d)
+  turn =
+      zip_turn c.args.weights.now c.args.literals.now c.loop-weight.yielded c.into_iter-weight-iterator.result c.loop-weight.weight-iterator
+      c.next.new.self _ (search rules) (search rules) c.loop-weight.yielded_by _ c.in-Some.is c.next.ensures.steps
 
-  abbrev start : Start
-  start = (goal.at.At-loop-i turn).Start
-
-  abbrev weight : ℤ
-  weight = get_or start.args.weights.now turn.loop-i.i (pos 0)
-
-  abbrev code : ℕ
-  code = get_or start.args.literals.now turn.loop-i.i 0
-
-  shows : Shows start.args.style (own_term start.args.style.unit (term weight code)) c.show_term-x.result
+  shows : Shows c.args.style (own_term c.args.style.unit
+      (term (get_or c.args.weights.now (length c.loop-weight.yielded) (pos 0)) (get_or c.args.literals.now (length c.loop-weight.yielded) 0)))
+      c.show_term-x.result
   shows =
-      let f : SFits w64 weight = record { sfits = c.show_term-arg-1.given } in
-      shows-as c.show_term-x.ensures (ap (λ (w : ℤ). own_term start.args.style.unit (term w code)) (to_z-of_z f))
-
-pub loop-i-init : goal.loop-i-init
-loop-i-init c = tallying-none _ _ _
-
-pub offset_bounds-weights-i : goal.offset_bounds-weights-i
-offset_bounds-weights-i c = omega (arith, c.well_formed)
-
-pub bounds-weights-i : goal.bounds-weights-i
-bounds-weights-i c = omega (arith, c.loop-i-test.true, c.requires)
-
-pub offset_bounds-literals-i : goal.offset_bounds-literals-i
-offset_bounds-literals-i c = omega (arith, c.well_formed)
-
-pub bounds-literals-i : goal.bounds-literals-i
-bounds-literals-i c = c.loop-i-test.true
+      let w = turn.2 (pos 0) in
+      let l = turn.3 0 in
+      let f : SFits w64 c.in-Some.weight.now = search rules in
+      rw (← w, ← l) (rw (to_z-of_z f) at c.show_term-x.ensures)
 
 pub returns-then-not-is_lawful : goal.returns-then-not-is_lawful
 returns-then-not-is_lawful c =
-    tallying-refused (turn (goal.at.returns-then-not-is_lawful c).After-show_term-x).loop-i.invariant (start (goal.at.returns-then-not-is_lawful c).After-show_term-x).requires c.loop-i-test.true (shows (goal.at.returns-then-not-is_lawful c).After-show_term-x)
-    (sym c.is_lawful.ensures ∙ c.if-not-is_lawful.true)
+    let d = (goal.at.returns-then-not-is_lawful c).After-show_term-x in
+    tallying-refused c.loop-weight.invariant c.requires (turn d).1 (shows d) (sym c.is_lawful.ensures ∙ c.if-not-is_lawful.true)
 
-pub overflow_add-i : goal.overflow_add-i
-overflow_add-i c = omega (arith, c.well_formed)
-
-pub loop-i-preserved : goal.loop-i-preserved
-loop-i-preserved c =
-    tallying-more (turn (goal.at.loop-i-preserved c).After-show_term-x).loop-i.invariant (start (goal.at.loop-i-preserved c).After-show_term-x).requires c.loop-i-test.true (shows (goal.at.loop-i-preserved c).After-show_term-x)
-    (sym c.is_lawful.ensures ∙ c.if-not-is_lawful.false)
-    c.tally_shown-t.ensures
+pub loop-weight-preserved : goal.loop-weight-preserved
+loop-weight-preserved c =
+    let d = (goal.at.loop-weight-preserved c).After-show_term-x in
+    rw (length-append c.loop-weight.yielded ((c.in-Some.weight, c.in-Some.code) ∷ []))
+    (tallying-more c.loop-weight.invariant c.requires (turn d).1 (shows d) (sym c.is_lawful.ensures ∙ c.if-not-is_lawful.false)
+    c.tally_shown-t.ensures)
 
 pub returns : goal.returns
-returns c = tallying-all c.loop-i.invariant c.requires c.loop-i-test.false
+returns c =
+    let z = zip_end c.args.weights.now c.args.literals.now c.loop-weight.yielded c.into_iter-weight-iterator.result c.loop-weight.weight-iterator
+    c.next.new.self _ (search rules) (search rules) c.loop-weight.yielded_by c.in-None.is c.next.ensures.steps in
+    tallying-all c.loop-weight.invariant c.requires (omega (arith, z))

@@ -3,88 +3,74 @@ use native.Mathlib.Omega.{arith}
 use mathlib.Core.Path.{◌≡◌, sym, ap, ◌∙◌}
 use Prim.Native.Nat.{◌+◌, ◌≤◌}
 use lib.ListN.{length}
+use mir.Syntax.{w64}
+use mir.Val.{to_z, of_z}
 use mir.Facts.{to_z-of_z}
 use Rattle.definitions.specs.Table.{sort_of, and_then}
 use Rattle.definitions.specs.Write.{allowed, written_in}
-use Rattle.printed.specs.declared.kinds.Sort as said
-use Rattle.printed.specs.declared.kinds.Sort.TheVariants.{Comment, Row, Refused}
+use Rattle.std.specs.Prelude.{Option, Some, None, Result, Ok, Err}
+use Rattle.definitions.specs.declared.Fault.{Fault}
+use Rattle.printed.specs.declared.kinds.Shape.{Shape}
 use Rattle.printed.specs.Kinds.{sort_said}
 use Rattle.printed.specs.Rows.{entry_of, on_columns}
 use Rattle.printed.proofs.OneEntry.{item_for, written-by}
 use Rattle.writer.proofs.OneEntry.{CommentReady, comment-ready, PartReady, part-ready, never-refused}
 use Rattle.writer.proofs.entries.write_entry.Goals as goal
-use Rattle.writer.proofs.entries.write_entry.Goals.{After-sort_of, In-Comment, In-Row, Start}
+use Rattle.writer.proofs.entries.write_entry.Goals.{In-Ok-None, In-Ok-Some, Start}
 
-module _ (c : After-sort_of) where
-  abbrev start : Start
-  start = (goal.at.After-sort_of c).Start
+module _ (c : Start) where
+  written : (s : Result (Option Shape) Fault) → s ≡ sort_said (sort_of c.args.kind) (to_z w64 (of_z w64 c.args.bound))
+      → written_in c.args.mode (on_columns c.args.weights.now c.args.literals.now) c.args.text.now
+      (entry_of c.args.kind c.args.first c.args.count c.args.bound)
+      ≡ and_then (item_for s (on_columns c.args.weights.now c.args.literals.now) c.args.text.now
+      (entry_of c.args.kind c.args.first c.args.count c.args.bound)) (allowed c.args.mode)
+  written s e =
+      written-by (on_columns c.args.weights.now c.args.literals.now) c.args.text.now
+      (entry_of c.args.kind c.args.first c.args.count c.args.bound) c.args.mode s (rw (to_z-of_z c.ranges.bound) at e)
 
-  sorted : c.sort_of.result ≡ sort_said (sort_of start.args.kind) start.args.bound
-  sorted = c.sort_of.ensures ∙ ap (sort_said (sort_of start.args.kind)) (to_z-of_z start.ranges.bound)
-
-  written : (s : said.Sort) → s ≡ sort_said (sort_of start.args.kind) start.args.bound
-      → written_in start.args.mode (on_columns start.args.weights.now start.args.literals.now) start.args.text.now
-      (entry_of start.args.kind start.args.first start.args.count start.args.bound)
-      ≡ and_then (item_for s (on_columns start.args.weights.now start.args.literals.now) start.args.text.now
-      (entry_of start.args.kind start.args.first start.args.count start.args.bound)) (allowed start.args.mode)
-  written s e = written-by (on_columns start.args.weights.now start.args.literals.now) start.args.text.now
-      (entry_of start.args.kind start.args.first start.args.count start.args.bound) start.args.mode s e
-
-commented : (c : In-Comment) → let s = start (goal.at.In-Comment c).After-sort_of in
-    CommentReady s.args.mode s.args.weights.now s.args.literals.now s.args.text.now s.args.kind s.args.first
-    s.args.count s.args.bound s.requires
+commented : (c : In-Ok-None) → let s = c.args in
+    CommentReady s.mode s.weights.now s.literals.now s.text.now s.kind s.first s.count s.bound c.requires
 commented c =
-    let s = start (goal.at.In-Comment c).After-sort_of in
-    comment-ready s.args.mode s.args.weights.now s.args.literals.now s.args.text.now s.args.kind s.args.first
-    s.args.count s.args.bound s.requires (written (goal.at.In-Comment c).After-sort_of Comment (sym c.in-Comment.is ∙ sorted (goal.at.In-Comment c).After-sort_of))
+    let s = c.args in
+    comment-ready s.mode s.weights.now s.literals.now s.text.now s.kind s.first s.count s.bound c.requires
+    (written (goal.at.In-Ok-None c).Start (Ok None) (rw c.in-Ok-None.field-0-is at c.in-Ok-None.ensures))
 
-rowed : (c : In-Row) → let s = start (goal.at.In-Row c).After-sort_of in
-    PartReady s.args.mode s.args.weights.now s.args.literals.now s.args.text.now s.args.kind s.args.first
-    s.args.count s.args.bound s.requires c.in-Row.shape
+rowed : (c : In-Ok-Some) → let s = c.args in
+    PartReady s.mode s.weights.now s.literals.now s.text.now s.kind s.first s.count s.bound c.requires c.in-Ok-Some.shape
 rowed c =
-    let s = start (goal.at.In-Row c).After-sort_of in
-    part-ready s.args.mode s.args.weights.now s.args.literals.now s.args.text.now s.args.kind s.args.first
-    s.args.count s.args.bound s.requires
-    _ (written (goal.at.In-Row c).After-sort_of (Row c.in-Row.shape) (sym c.in-Row.is ∙ sorted (goal.at.In-Row c).After-sort_of))
+    let s = c.args in
+    part-ready s.mode s.weights.now s.literals.now s.text.now s.kind s.first s.count s.bound c.requires
+    _ (written (goal.at.In-Ok-Some c).Start (Ok (Some c.in-Ok-Some.shape)) (rw c.in-Ok-Some.field-0-is at c.in-Ok-Some.ensures))
 
 pub overflow_add-end : goal.overflow_add-end
-overflow_add-end c = omega (arith, (commented c).inside, (start (goal.at.overflow_add-end c).After-sort_of).well_formed)
+overflow_add-end c = omega (arith, (commented c).inside)
 
 pub slice_bounds-put_remark-end : goal.slice_bounds-put_remark-end
-slice_bounds-put_remark-end c =
-    let s = start (goal.at.slice_bounds-put_remark-end c).After-sort_of in
-    let h : s.args.first + s.args.count ≤ length s.args.text.now = (commented c).inside in
-    h
+slice_bounds-put_remark-end c = (commented c).inside
 
-pub overflow_add-end-in-Row : goal.overflow_add-end-in-Row
-overflow_add-end-in-Row c = omega (arith, (rowed c).inside, (start (goal.at.overflow_add-end-in-Row c).After-sort_of).well_formed)
+pub overflow_add-end-in-Ok-Some : goal.overflow_add-end-in-Ok-Some
+overflow_add-end-in-Ok-Some c = omega (arith, (rowed c).inside)
 
 pub offset_bounds-weights-first : goal.offset_bounds-weights-first
-offset_bounds-weights-first c = omega (arith, (rowed c).inside, (start (goal.at.offset_bounds-weights-first c).After-sort_of).well_formed)
-
-pub slice_bounds-put_row-end : goal.slice_bounds-put_row-end
-slice_bounds-put_row-end c =
-    let s = start (goal.at.slice_bounds-put_row-end c).After-sort_of in
-    let h : s.args.first + s.args.count ≤ length s.args.weights.now = omega (arith, (rowed c).inside) in
-    h
+offset_bounds-weights-first c = omega (arith, (rowed c).inside)
 
 pub offset_bounds-literals-first : goal.offset_bounds-literals-first
-offset_bounds-literals-first c = omega (arith, (rowed (goal.at.offset_bounds-literals-first c).In-Row).inside, (start (goal.at.offset_bounds-literals-first c).After-sort_of).well_formed)
+offset_bounds-literals-first c = omega (arith, (rowed (goal.at.offset_bounds-literals-first c).In-Ok-Some).inside)
 
-pub slice_bounds-put_row-end-in-Row : goal.slice_bounds-put_row-end-in-Row
-slice_bounds-put_row-end-in-Row c =
-    let s = start (goal.at.slice_bounds-put_row-end-in-Row c).After-sort_of in
-    let h : s.args.first + s.args.count ≤ length s.args.literals.now = omega (arith, (rowed (goal.at.slice_bounds-put_row-end-in-Row c).In-Row).inside) in
-    h
+pub slice_bounds-put_row-end : goal.slice_bounds-put_row-end
+slice_bounds-put_row-end c = omega (arith, (rowed c).inside)
 
-pub returns-in-Comment : goal.returns-in-Comment
-returns-in-Comment c = (commented (goal.at.returns-in-Comment c).In-Comment).puts c.put_remark.ensures
+pub slice_bounds-put_row-end-in-Ok-Some : goal.slice_bounds-put_row-end-in-Ok-Some
+slice_bounds-put_row-end-in-Ok-Some c = omega (arith, (rowed (goal.at.slice_bounds-put_row-end-in-Ok-Some c).In-Ok-Some).inside)
 
-pub returns-in-Row : goal.returns-in-Row
-returns-in-Row c = (rowed (goal.at.returns-in-Row c).In-Row).puts c.put_row.ensures
+pub returns-in-Ok-None : goal.returns-in-Ok-None
+returns-in-Ok-None c = (commented (goal.at.returns-in-Ok-None c).In-Ok-None).puts c.put_remark.ensures
 
-pub returns-in-Refused : goal.returns-in-Refused
-returns-in-Refused c =
-    let s = start (goal.at.returns-in-Refused c).After-sort_of in
-    never-refused s.args.mode s.args.weights.now s.args.literals.now s.args.text.now s.args.kind s.args.first
-    s.args.count s.args.bound s.requires (written (goal.at.returns-in-Refused c).After-sort_of Refused (sym c.in-Refused.is ∙ sorted (goal.at.returns-in-Refused c).After-sort_of))
+pub returns-in-Ok-Some : goal.returns-in-Ok-Some
+returns-in-Ok-Some c = (rowed (goal.at.returns-in-Ok-Some c).In-Ok-Some).puts c.put_row.ensures
+
+pub returns-in-Err : goal.returns-in-Err
+returns-in-Err c =
+    let s = c.args in
+    never-refused s.mode s.weights.now s.literals.now s.text.now s.kind s.first s.count s.bound c.requires
+    (written (goal.at.returns-in-Err c).Start _ c.in-Err.ensures)
