@@ -1,5 +1,5 @@
 -- What writing rows and reading the written part again answers; and what is said of it before anything is written.
-use Rattle.std.specs.Prelude.{ℕ, cond, List, leb, length}
+use Rattle.std.specs.Prelude.{ℕ, cond, List, leb, length, Result, Ok, Err}
 use Rattle.definitions.specs.Limits.{file_limit}
 use Rattle.definitions.specs.Refusal.{refusal}
 use Rattle.definitions.specs.declared.Refusal.{Refusal}
@@ -9,8 +9,9 @@ use Rattle.definitions.specs.File.{reading}
 use Rattle.definitions.specs.Back.{options_of}
 use Rattle.definitions.specs.declared.Mode.{Mode}
 use Rattle.measures.specs.declared.rows.Extent.{Extent}
-use Rattle.foreseen.specs.declared.Returned.{Returned}
-use Rattle.foreseen.specs.declared.Returned.TheVariants.{NotWritten, NotRead, Back}
+use Rattle.foreseen.specs.declared.Back.{Back}
+use Rattle.foreseen.specs.declared.NotBack.{NotBack}
+use Rattle.foreseen.specs.declared.NotBack.TheVariants.{NotWritten, NotRead}
 
 -- the writer's refusal, or what reading the text answers, with the text's length
 pub data Return : Type 0 where
@@ -18,10 +19,10 @@ pub data Return : Type 0 where
   unread : Refusal → Return
   back : ℕ → Totals → Return
 
-abbrev pub said_returned : Returned → Return
-said_returned (NotWritten r) = unwritten r
-said_returned (NotRead r) = unread r
-said_returned (Back l n m) = back l (totals_of n m)
+abbrev pub said_returned : Result Back NotBack → Return
+said_returned (Err (NotWritten r)) = unwritten r
+said_returned (Err (NotRead r)) = unread r
+said_returned (Ok b) = back b.length (totals_of b.rows b.terms)
 
 abbrev pub read_back : List ℕ → Outcome Totals → Return
 read_back s (refused r) = unread r

@@ -8,56 +8,59 @@ ghost use Rattle.definitions.specs.Table.{table};
 ghost use Rattle.foreseen.specs.Returning.{said_returned, returning, foretold};
 
 use definitions::{Mode, Refusal};
-use measures::{Extent, Measure};
+use measures::Extent;
 
-// The writer's refusal; the reader's refusal; or the length of the text, and the rows and terms read back.
-#[derive(Clone, Copy)]
-pub enum Returned {
+// What comes back: the length of the text, and the rows and terms read of it.
+#[derive(Clone, Copy, Debug, PartialEq, Eq)]
+pub struct Back {
+    pub length: usize,
+    pub rows: usize,
+    pub terms: usize,
+}
+
+// Nothing comes back: the writer's refusal, or the reader's.
+#[derive(Clone, Copy, Debug, PartialEq, Eq)]
+pub enum NotBack {
     NotWritten(Refusal),
     NotRead(Refusal),
-    Back {
-        length: usize,
-        rows: usize,
-        terms: usize,
-    },
 }
 
 // 14 of the writer, then the reader's 1, 9 and 10: no other refusal is left once the rows are known to be good.
-fn foretell(all: Extent, room: usize, rows: usize, terms: usize) -> Returned
+fn foretell(all: Extent, room: usize, rows: usize, terms: usize) -> Result<Back, NotBack>
     ensures { said_returned result ≡ foretold all room rows terms }
 {
     let length = all.length as usize;
     let lines = all.lines as usize;
     let count = all.terms as usize;
     if length > room {
-        return Returned::NotWritten(Refusal {
+        return Err(NotBack::NotWritten(Refusal {
             number: 14,
             place: all.length,
-        });
+        }));
     }
     if length > definitions::FILE_LIMIT {
-        return Returned::NotRead(Refusal {
+        return Err(NotBack::NotRead(Refusal {
             number: 1,
             place: 0,
-        });
+        }));
     }
     if lines > rows {
-        return Returned::NotRead(Refusal {
+        return Err(NotBack::NotRead(Refusal {
             number: 9,
             place: all.lines,
-        });
+        }));
     }
     if count > terms {
-        return Returned::NotRead(Refusal {
+        return Err(NotBack::NotRead(Refusal {
             number: 10,
             place: all.terms,
-        });
+        }));
     }
-    Returned::Back {
+    Ok(Back {
         length,
         rows: lines,
         terms: count,
-    }
+    })
 }
 
 // Into an output with that room, and back into tables with theirs.
@@ -77,18 +80,14 @@ pub fn foresee(
     newbounds: &[i64],
     newweights: &[i64],
     newliterals: &[u32],
-) -> Returned
+) -> Result<Back, NotBack>
     ensures { said_returned result ≡ returning mode (table newkinds.now newfirsts.now newcounts.now newbounds.now newweights.now newliterals.now)
         (writing mode (table kinds.now firsts.now counts.now bounds.now weights.now literals.now) text.now (length out.now)) }
 {
-    match measures::measure_opb_lines(
+    let all = measures::measure_opb_lines(
         kinds, firsts, counts, bounds, weights, literals, text, mode,
-    ) {
-        Measure::Refused(r) => Returned::NotWritten(r),
-        Measure::Lines(all) => {
-            let rows = columns::row_room(newkinds, newfirsts, newcounts, newbounds);
-            let terms = columns::term_room(newweights, newliterals);
-            foretell(all, out.len(), rows, terms)
-        }
-    }
+    ).map_err(NotBack::NotWritten)?;
+    let rows = columns::row_room(newkinds, newfirsts, newcounts, newbounds);
+    let terms = columns::term_room(newweights, newliterals);
+    foretell(all, out.len(), rows, terms)
 }

@@ -1,6 +1,6 @@
 -- What a call leaves behind: a refusal the output and the tables as they were; else the text, and what reading it
 -- gives.
-use Rattle.std.specs.Prelude.{Result}
+use Rattle.std.specs.Prelude.{Result, Ok, Err}
 use Prim.Native.Nat.{ℕ, ◌≤◌}
 use mathlib.Core.Path.{◌≡◌, refl, sym, ap, ◌∙◌}
 use mathlib.Core.List.{List}
@@ -21,9 +21,11 @@ use Rattle.definitions.proofs.ThereAndBack.{there_and_back}
 use Rattle.reader.specs.Reads.{Reads}
 use Rattle.definitions.proofs.Truths.{never}
 use Rattle.writer.specs.Writes.{Writes}
-use Rattle.foreseen.specs.Returning.{unwritten, unread, back, read_back, returning}
+use Rattle.foreseen.specs.Returning.{unwritten, unread, back, read_back, returning, said_returned}
 use Rattle.promise.specs.Returns.{output_kept, tables_after, Returns}
-use Rattle.foreseen.specs.declared.Returned.TheVariants.{NotWritten, NotRead, Back}
+use Rattle.foreseen.specs.declared.Back.{Back}
+use Rattle.foreseen.specs.declared.NotBack.{NotBack}
+use Rattle.foreseen.specs.declared.NotBack.TheVariants.{NotWritten, NotRead}
 
 -- ---- what is left behind
 
@@ -64,13 +66,11 @@ module _ (m : Mode) (t : Table) (text o : List ℕ) (new : Table) where
       by (refused q) p f = never (cc)
       by (accepted s) p f = read s p (reading (options_of m) s new) refl f
 
-  pub not_written : (r : Refusal) → unwritten r ≡ returning m new text_of → Returns m t text o new (NotWritten r) o new
-  not_written r e =
+  pub not-back : (e : NotBack) → said_returned (Err e) ≡ returning m new text_of → Returns m t text o new (Err e) o new
+  not-back (NotWritten r) e =
       let u = refused-writing r e in
       record { answer = e; output = u.output; tables = u.tables; kept = there_and_back m t text (length o) }
-
-  pub not-read : (r : Refusal) → unread r ≡ returning m new text_of → Returns m t text o new (NotRead r) o new
-  not-read r e =
+  not-back (NotRead r) e =
       let u = refused-reading r e in
       record { answer = e; output = u.output; tables = u.tables; kept = there_and_back m t text (length o) }
 
@@ -94,25 +94,25 @@ module _ (m : Mode) (t : Table) (text o : List ℕ) (new : Table) where
       by (refused r) p f = never (cc)
       by (accepted s) p f = read s p (reading (options_of m) s new) refl f
 
-  module _ (l n k : ℕ) (e : back l (totals_of n k) ≡ returning m new text_of) (w : Result ℕ Refusal) (o' : List ℕ)
+  module _ (b : Back) (e : said_returned (Ok b) ≡ returning m new text_of) (w : Result ℕ Refusal) (o' : List ℕ)
       (wrote : Writes m t text o w o') where
-    good : Good l
-    good = good-back l (totals_of n k) e
+    good : Good b.length
+    good = good-back b.length (totals_of b.rows b.terms) e
 
     output-is : o' ≡ over good.bytes o
     unfolding output_after
     output-is = wrote.after ∙ ap (λ (x : Outcome (List ℕ)). output_after x o) good.is
 
-    pub text-within : l ≤ length o'
+    pub text-within : b.length ≤ length o'
     text-within = omega (arith, good.long, ap length output-is, length-append good.bytes (drop (length good.bytes) o))
 
-    pub part_length : l ≡ length (take l o')
-    part_length = sym (length-take-le l o' text-within)
+    pub part_length : b.length ≡ length (take b.length o')
+    part_length = sym (length-take-le b.length o' text-within)
 
-    part-is-text : take l o' ≡ good.bytes
-    part-is-text = taken l good.bytes o o' output-is good.long
+    part-is-text : take b.length o' ≡ good.bytes
+    part-is-text = taken b.length good.bytes o o' output-is good.long
 
-    pub came-back : (a : Result Totals Refusal) (new' : Table) → Reads (options_of m) (take l o') new a new' → Returns m t text o new (Back l n k) o' new'
+    pub came-back : (a : Result Totals Refusal) (new' : Table) → Reads (options_of m) (take b.length o') new a new' → Returns m t text o new (Ok b) o' new'
     came-back a new' r =
         let q : Reads (options_of m) good.bytes new a new' = rw part-is-text at r in
         record {

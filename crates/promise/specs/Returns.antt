@@ -1,5 +1,5 @@
 -- What writing rows and reading the written part again answers and leaves; and that what came back means what went out.
-use Rattle.std.specs.Prelude.{ℕ, ◌≡◌, List, length}
+use Rattle.std.specs.Prelude.{ℕ, ◌≡◌, List, length, Result}
 use Rattle.definitions.specs.Lists.{over}
 use Rattle.definitions.specs.Row.{Line}
 use Rattle.definitions.specs.Table.{Table, Outcome, refused, accepted, after}
@@ -8,7 +8,8 @@ use Rattle.definitions.specs.Write.{writing}
 use Rattle.definitions.specs.Back.{options_of}
 use Rattle.definitions.proofs.ThereAndBack.{ThereAndBack}
 use Rattle.definitions.specs.declared.Mode.{Mode}
-use Rattle.foreseen.specs.declared.Returned.{Returned}
+use Rattle.foreseen.specs.declared.Back.{Back}
+use Rattle.foreseen.specs.declared.NotBack.{NotBack}
 use Rattle.foreseen.specs.Returning.{said_returned, returning}
 
 -- what the output holds: the text if it came back, and else what it held
@@ -24,7 +25,7 @@ abbrev pub tables_after : Mode → Table → Outcome (List ℕ) → Table
 tables_after m new (refused r) = new
 tables_after m new (accepted s) = after (reading (options_of m) s new) new
 
-pub record Returns (m : Mode) (t : Table) (text o : List ℕ) (new : Table) (r : Returned) (o' : List ℕ) (new' : Table) : Type 0 where
+pub record Returns (m : Mode) (t : Table) (text o : List ℕ) (new : Table) (r : Result Back NotBack) (o' : List ℕ) (new' : Table) : Type 0 where
   pub answer : said_returned r ≡ returning m new (writing m t text (length o))
   pub output : o' ≡ output_kept m new (writing m t text (length o)) o
   pub tables : new' ≡ tables_after m new (writing m t text (length o))

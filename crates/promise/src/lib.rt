@@ -8,7 +8,7 @@ ghost use Rattle.definitions.specs.Table.{table};
 ghost use Rattle.promise.specs.Returns.{Returns};
 
 use definitions::{Mode, Options};
-use foreseen::Returned;
+use foreseen::{Back, NotBack};
 
 pub fn there_and_back(
     kinds: &[u8],
@@ -26,12 +26,12 @@ pub fn there_and_back(
     newbounds: &mut [i64],
     newweights: &mut [i64],
     newliterals: &mut [u32],
-) -> Returned
+) -> Result<Back, NotBack>
     ensures { Returns mode (table kinds.now firsts.now counts.now bounds.now weights.now literals.now) text.now
         out.old (table newkinds.old newfirsts.old newcounts.old newbounds.old newweights.old newliterals.old)
         result out.new (table newkinds.new newfirsts.new newcounts.new newbounds.new newweights.new newliterals.new) }
 {
-    match foreseen::foresee(
+    let back = foreseen::foresee(
         kinds,
         firsts,
         counts,
@@ -47,34 +47,21 @@ pub fn there_and_back(
         newbounds,
         newweights,
         newliterals,
-    ) {
-        Returned::NotWritten(r) => Returned::NotWritten(r),
-        Returned::NotRead(r) => Returned::NotRead(r),
-        Returned::Back {
-            length,
-            rows,
-            terms,
-        } => {
-            // Both accept, as was foreseen.
-            let _ = writer::write_opb_lines(
-                kinds, firsts, counts, bounds, weights, literals, text, mode, out,
-            );
-            let first = mode.first;
-            let _ = reader::parse_opb_data(
-                &out[..length],
-                Options { first },
-                newkinds,
-                newfirsts,
-                newcounts,
-                newbounds,
-                newweights,
-                newliterals,
-            );
-            Returned::Back {
-                length,
-                rows,
-                terms,
-            }
-        }
-    }
+    )?;
+    // Both accept, as was foreseen.
+    let _written = writer::write_opb_lines(
+        kinds, firsts, counts, bounds, weights, literals, text, mode, out,
+    );
+    let first = mode.first;
+    let _read = reader::parse_opb_data(
+        &out[..back.length],
+        Options { first },
+        newkinds,
+        newfirsts,
+        newcounts,
+        newbounds,
+        newweights,
+        newliterals,
+    );
+    Ok(back)
 }
