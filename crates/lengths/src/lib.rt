@@ -49,6 +49,6 @@ pub fn count_length(m: u64) -> usize
 pub fn number_length(z: i64) -> usize
     ensures { result ≡ length (integer_text z) }
 {
-    let n = count_length(numbers::magnitude(z));
+    let n = count_length(z.unsigned_abs());
     if z < 0 { n + 1 } else { n }
 }

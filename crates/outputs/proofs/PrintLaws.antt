@@ -151,9 +151,12 @@ signed-done false m at o n p o₁ out c s q =
     ((rw (s.2, s.0) at q) ∙ over-sign o at n (decimal m) (omega (arith, decimal-some m)))
 
 -- what an integer's sign and size print
-pub integer-is : (z : ℤ) → signed_text (lt_z z (pos 0)) (nat_abs z) ≡ integer_text z
+integer-is : (z : ℤ) → signed_text (lt_z z (pos 0)) (nat_abs z) ≡ integer_text z
 integer-is (pos n) = rw (le-ltb n 0 (omega arith))
 integer-is (negsuc n) = refl
+
+pub sized : (z : ℤ) (m : ℕ) → m ≡ nat_abs z → signed_text (lt_z z (pos 0)) m ≡ integer_text z
+sized z m e = rw e (integer-is z)
 
 -- ---- a text that was copied to its place
 

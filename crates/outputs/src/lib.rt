@@ -116,7 +116,7 @@ pub fn print_number(value: i64, out: &mut [u8], at: usize) -> Option<usize>
     ensures { Prints (integer_text value) at out.old result out.new }
 {
     let negative = value < 0;
-    let m = numbers::magnitude(value);
+    let m = value.unsigned_abs();
     if m >= 10_000 {
         return print_long(negative, m, out, at);
     }

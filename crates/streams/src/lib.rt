@@ -18,11 +18,11 @@ fn fill<R: Read>(reader: &mut R, buffer: &mut [u8]) -> io::Result<usize>
 {
     let mut done: usize = 0;
     while done < buffer.len() {
-        match reader.read(&mut buffer[done..]) {
-            Ok(0) => return Ok(done),
-            Ok(n) => done += n,
-            Err(error) => return Err(error),
+        let n = reader.read(&mut buffer[done..])?;
+        if n == 0 {
+            return Ok(done);
         }
+        done += n;
     }
     Ok(done)
 }
@@ -88,13 +88,10 @@ pub fn print_put<W: Write>(writer: &mut W, put: Option<usize>, out: &[u8]) -> io
     ensures err { OnErr result (AppendsFront (W.contents writer.old) (W.contents writer.new) (put_text put out.now)) }
 {
     match put {
-        Some(n) => {
-            if n > out.len() {
-                return Ok(false);
-            }
+        Some(n) if n <= out.len() => {
             print(writer, &out[..n])?;
             Ok(true)
         }
-        None => Ok(false),
+        _ => Ok(false),
     }
 }

@@ -14,16 +14,19 @@ use Rattle.lengths.proofs.number_length.Goals.{After-count_length-n}
 counted : (c : After-count_length-n) → c.count_length-n.result ≡ length (decimal (nat_abs c.args.z))
 counted c =
     c.count_length-n.ensures
-    ∙ ap (λ (m : ℕ). length (decimal m)) (c.magnitude.ensures ∙ ap nat_abs (to_z-of_z c.ranges.z))
+    ∙ ap (λ (m : ℕ). length (decimal m)) (c.unsigned_abs.ensures.value ∙ ap nat_abs (to_z-of_z c.ranges.z))
 
 pub overflow_add-result : goal.overflow_add-result
 overflow_add-result c =
-    omega (arith, counted (goal.at.overflow_add-result c).After-count_length-n, decimal-length-most (nat_abs c.args.z), size_fits c.args.z c.ranges.z)
+    let n = counted (goal.at.overflow_add-result c).After-count_length-n in
+    omega (arith, n, decimal-length-most (nat_abs c.args.z), size_fits c.args.z c.ranges.z)
 
 pub returns-then-z-lt0 : goal.returns-then-z-lt0
 returns-then-z-lt0 c =
-    rw (integer-text-negative c.args.z (rw (to_z-of_z c.ranges.z) at c.if-z-lt0.true)) (omega (arith, counted (goal.at.returns-then-z-lt0 c).After-count_length-n))
+    let n = counted (goal.at.returns-then-z-lt0 c).After-count_length-n in
+    rw (integer-text-negative c.args.z (rw (to_z-of_z c.ranges.z) at c.if-z-lt0.true)) (omega (arith, n))
 
 pub returns-else-z-lt0 : goal.returns-else-z-lt0
 returns-else-z-lt0 c =
-    rw (integer-text-positive c.args.z (rw (to_z-of_z c.ranges.z) at c.if-z-lt0.false)) (counted (goal.at.returns-else-z-lt0 c).After-count_length-n)
+    rw (integer-text-positive c.args.z (rw (to_z-of_z c.ranges.z) at c.if-z-lt0.false))
+    (counted (goal.at.returns-else-z-lt0 c).After-count_length-n)

@@ -6,5 +6,5 @@ pub loop-done-preserved : goal.loop-done-preserved
 loop-done-preserved g c = record {
   room = search rules;
   within = search rules;
-  consumed = read_more _ _ _ _ _ _ _ _ c.loop-done.invariant.within c.in-Ok.ensures.bound.0 c.loop-done.invariant.consumed c.in-Ok.ensures.bytes.0;
+  consumed = read_more _ _ _ _ _ _ _ _ c.loop-done.invariant.within c.in_ok-n.ensures.bound.0 c.loop-done.invariant.consumed c.in_ok-n.ensures.bytes.0;
 }
