@@ -1,7 +1,7 @@
 -- Which terms are plain? `-12 ~x345 `: a weight of at most seven bytes, `-` or nothing and digits; one space; a literal
 -- of at most seven bytes, `x` or `~x` and digits, a file number above 0; one space, and no blank behind it. At least 17
 -- bytes are left, and the first index is 0 or 1. Weight and literal with their spaces are defined in plain_parts.
-use Rattle.std.specs.Prelude.{ℕ, ◌+◌, ◌-◌, ◌≤◌, ◌<◌, ◌≡◌, Bool, cond, ◌&&◌, List, eqb, leb, ltb, length, drop}
+use Rattle.std.specs.Prelude.{ℕ, ◌+◌, ◌-◌, ◌≤◌, ◌<◌, ◌≡◌, Bool, cond, ◌&&◌, List, eqb, leb, ltb, length, drop, Option, Some, None}
 use Rattle.definitions.specs.Bytes.{space, minus, tilde}
 use Rattle.definitions.specs.Number.{value, signed}
 use Rattle.definitions.specs.Literal.{code_of}
@@ -11,17 +11,15 @@ use Rattle.definitions.specs.Text.{term_step}
 use Rattle.definitions.specs.declared.Options.{Options}
 use Rattle.plain_parts.specs.PartForms.{byte_at, digits_of, bytes_of, sign, is_weight, letters, is_literal}
 use Rattle.plain.specs.declared.PlainTerm.{PlainTerm}
-use Rattle.plain.specs.declared.PlainRead.{PlainRead}
-use Rattle.plain.specs.declared.PlainRead.TheVariants as read
 
 -- a plain term at the front of a text and the bytes that it takes, or none there
 pub data Plain : Type 0 where
   plain : PlainTerm → ℕ → Plain
   other : Plain
 
-abbrev pub said_plain : PlainRead → Plain
-said_plain (read.Plain p n) = plain p n
-said_plain read.Other = other
+abbrev pub said_plain : Option (PlainTerm × ℕ) → Plain
+said_plain (Some (p, n)) = plain p n
+said_plain None = other
 
 -- ---- a term
 

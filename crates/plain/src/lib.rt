@@ -8,10 +8,9 @@ ghost use Rattle.std.specs.Prelude.{◌≡◌};
 ghost use Rattle.plain.specs.Plain.{plain_at, said_plain};
 
 use definitions::Options;
-use plain_parts::{PlainLiteral, PlainWeight};
 
 // A term whose weight has a sign and a size, and whose literal has the file number of its variable.
-#[derive(Clone, Copy)]
+#[derive(Clone, Copy, Debug, PartialEq, Eq)]
 pub struct PlainTerm {
     pub negative: bool,
     pub size: u64,
@@ -19,53 +18,30 @@ pub struct PlainTerm {
     pub number: u64,
 }
 
-// A plain term and the bytes that it takes, or anything else.
-#[derive(Clone, Copy)]
-pub enum PlainRead {
-    Plain { term: PlainTerm, taken: usize },
-    Other,
-}
-
-// The term at the front of s, if it is plain. "Each reading step takes the rest of the file from where the last one
+// The term at the front of s, if it is plain, and the bytes that it takes. "Each reading step takes the rest of the file from where the last one
 // stopped": the weight is read from s, the literal from what is left behind the weight's space. They and two spaces
 // take 16 bytes at most. A file number above 0 is not below the first index 0 or 1; with another first index no term is
 // plain.
-pub fn plain_term(s: &[u8], options: Options) -> PlainRead
+pub fn plain_term(s: &[u8], options: Options) -> Option<(PlainTerm, usize)>
     ensures { said_plain result ≡ plain_at options s.now }
 {
     if s.len() < 17 {
-        return PlainRead::Other;
+        return None;
     }
     if options.first > 1 {
-        return PlainRead::Other;
+        return None;
     }
-    let PlainWeight::Weight {
-        negative,
-        size,
-        taken: gap,
-    } = plain_parts::plain_weight(s)
-    else {
-        return PlainRead::Other;
-    };
-    let PlainLiteral::Literal {
-        negated,
-        number,
-        taken: long,
-    } = plain_parts::plain_literal(&s[gap + 1..])
-    else {
-        return PlainRead::Other;
-    };
-    let taken = gap + long + 2;
+    let weight = plain_parts::plain_weight(s)?;
+    let literal = plain_parts::plain_literal(&s[weight.taken + 1..])?;
+    let taken = weight.taken + literal.taken + 2;
     if s[taken] <= b' ' {
-        return PlainRead::Other;
+        return None;
     }
-    PlainRead::Plain {
-        term: PlainTerm {
-            negative,
-            size,
-            negated,
-            number,
-        },
-        taken,
-    }
+    let term = PlainTerm {
+        negative: weight.negative,
+        size: weight.size,
+        negated: literal.negated,
+        number: literal.number,
+    };
+    Some((term, taken))
 }

@@ -19,8 +19,8 @@ use Rattle.definitions.proofs.Truths.{one_truth}
 use Rattle.plain_parts.specs.Lanes.{lanes, all_bytes, FirstGap, DigitsAre, DigitsSay}
 use Rattle.plain_parts.specs.PartForms.{byte_at, digits_of, bytes_of, is_part, sign, is_weight, letters, is_literal}
 use Rattle.plain_parts.specs.InWord.{Begins, PartIs, WeightSays, LiteralSays}
-use Rattle.plain_parts.specs.declared.word.PartRead.{PartRead}
-use Rattle.plain_parts.specs.declared.word.PartRead.TheVariants as part
+use Rattle.std.specs.Prelude.{Option, Some, None}
+use Rattle.plain_parts.specs.declared.word.Lanes.{Lanes}
 use Rattle.plain_parts.proofs.Gaps.{AtLane, Marks, gap_at_lem, weight-marks, literal-marks}
 use Rattle.plain_parts.proofs.Leading.{leading_at, leading-taken, leading-digits, leading-ended}
 use Rattle.plain_parts.proofs.PartTests.{sign-minus, sign-none, sign-within, letters-tilde, letters-none, letters-within}
@@ -163,27 +163,27 @@ module _ {s : List ℕ} {word gap : ℕ} (f : Fronted s 1 word gap) where
     pub minus-near : gap < 16 → is_weight s ≡ false
     minus-near h = rw minus-sign (gap-near f 1 (omega arith) (omega arith) h)
 
-    pub minus-says : gap < 64 → 16 ≤ gap → (r : PartRead) → DigitsSay (word / 256) (gap - 12) true (gap / 8) r → WeightSays s r
-    minus-says h g part.Other d =
+    pub minus-says : gap < 64 → 16 ≤ gap → (r : Option Lanes) → DigitsSay (word / 256) (gap - 12) true (gap / 8) r → WeightSays s r
+    minus-says h g None d =
         rw minus-sign (no_part f 1 (omega arith) (omega arith) (word / 256) (behind-one s word f.bytes) d)
-    minus-says h g (part.Lanes marked y taken) d = record {
+    minus-says h g (Some r) d = record {
       front = d.mark ∙ sym (eq-eqb (byte_at s 0) minus (first_byte s word f.bytes ∙ b));
       part = rw (minus-sign, d.long)
-          (part-is f 1 (omega arith) (omega arith) (word / 256) (behind-one s word f.bytes) y h g d.are);
+          (part-is f 1 (omega arith) (omega arith) (word / 256) (behind-one s word f.bytes) r.digits h g d.are);
     }
 
   module _ (b : bit_and word 255 ≡ minus → ⊥) where
     no_minus : byte_at s 0 ≡ minus → ⊥
     no_minus e = b (sym (first_byte s word f.bytes) ∙ e)
 
-    pub unsigned-says : gap < 64 → (r : PartRead) → DigitsSay word (gap - 4) false (gap / 8) r → WeightSays s r
-    unsigned-says h part.Other d = rw (sign-none s no_minus) (no_part f 0 (omega arith) (omega arith) word f.bytes d)
-    unsigned-says h (part.Lanes marked y taken) d = record {
+    pub unsigned-says : gap < 64 → (r : Option Lanes) → DigitsSay word (gap - 4) false (gap / 8) r → WeightSays s r
+    unsigned-says h None d = rw (sign-none s no_minus) (no_part f 0 (omega arith) (omega arith) word f.bytes d)
+    unsigned-says h (Some r) d = record {
       front = d.mark ∙ sym (ne_eqb (byte_at s 0) minus no_minus);
       part =
           let a = f.at h in
           rw (sign-none s no_minus, d.long)
-          (part-is f 0 (omega arith) (omega arith) word f.bytes y h (omega (arith, a.is, a.least)) d.are);
+          (part-is f 0 (omega arith) (omega arith) word f.bytes r.digits h (omega (arith, a.is, a.least)) d.are);
     }
 
 -- ---- literals
@@ -223,17 +223,17 @@ module _ {s : List ℕ} {word gap : ℕ} (f : Fronted s 2 word gap) where
     no-tilde : byte_at s 0 ≡ tilde → ⊥
     no-tilde e = omega (arith, starts-x)
 
-    pub letter-says : gap < 64 → (r : PartRead) → DigitsSay (word / 256) (gap - 12) false (gap / 8) r → LiteralSays s r
-    letter-says h part.Other d =
+    pub letter-says : gap < 64 → (r : Option Lanes) → DigitsSay (word / 256) (gap - 12) false (gap / 8) r → LiteralSays s r
+    letter-says h None d =
         no-digits s (rw (letters-none s no-tilde)
         (no_part f 1 (omega arith) (omega arith) (word / 256) (behind-one s word f.bytes) d))
-    letter-says h (part.Lanes marked y taken) d = record {
+    letter-says h (Some r) d = record {
       front = d.mark ∙ sym (ne_eqb (byte_at s 0) tilde no-tilde);
       letter = rw (letters-none s no-tilde) starts-x;
       part =
           let a = f.at h in
           rw (letters-none s no-tilde, d.long)
-          (part-is f 1 (omega arith) (omega arith) (word / 256) (behind-one s word f.bytes) y h (omega (arith, a.is, a.least))
+          (part-is f 1 (omega arith) (omega arith) (word / 256) (behind-one s word f.bytes) r.digits h (omega (arith, a.is, a.least))
           d.are);
     }
 
@@ -250,12 +250,12 @@ module _ {s : List ℕ} {word gap : ℕ} (f : Fronted s 2 word gap) where
     pub tilde-near : gap < 24 → is_literal s ≡ false
     tilde-near h = no-digits s (rw tilde-letters (gap-near f 2 (omega arith) (omega arith) h))
 
-    pub tilde-says : gap < 64 → 24 ≤ gap → (r : PartRead) → DigitsSay (word / 65536) (gap - 20) true (gap / 8) r → LiteralSays s r
-    tilde-says h g part.Other d =
+    pub tilde-says : gap < 64 → 24 ≤ gap → (r : Option Lanes) → DigitsSay (word / 65536) (gap - 20) true (gap / 8) r → LiteralSays s r
+    tilde-says h g None d =
         no-digits s (rw tilde-letters (no_part f 2 (omega arith) (omega arith) (word / 65536) (behind-two s word f.bytes) d))
-    tilde-says h g (part.Lanes marked y taken) d = record {
+    tilde-says h g (Some r) d = record {
       front = d.mark ∙ sym (eq-eqb (byte_at s 0) tilde starts-tilde.0);
       letter = rw tilde-letters starts-tilde.1;
       part = rw (tilde-letters, d.long)
-          (part-is f 2 (omega arith) (omega arith) (word / 65536) (behind-two s word f.bytes) y h g d.are);
+          (part-is f 2 (omega arith) (omega arith) (word / 65536) (behind-two s word f.bytes) r.digits h g d.are);
     }

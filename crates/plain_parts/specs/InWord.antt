@@ -1,12 +1,11 @@
 -- What is said of the parts of a plain term (specs/PartForms.antt) as they are found in a word, their digits in lanes.
 -- The byte behind is looked at later.
-use Rattle.std.specs.Prelude.{ℕ, ◌-◌, ◌≤◌, ◌<◌, ◌≡◌, Bool, false, List, eqb, length, take}
+use Rattle.std.specs.Prelude.{ℕ, ◌-◌, ◌≤◌, ◌<◌, ◌≡◌, Bool, false, List, eqb, length, take, Option, Some, None}
 use Rattle.definitions.specs.Bytes.{minus, letter_x, tilde}
 use Rattle.definitions.specs.Number.{value}
 use Rattle.plain_parts.specs.Lanes.{lanes, lane_value}
 use Rattle.plain_parts.specs.PartForms.{byte_at, digits_of, bytes_of, sign, is_weight, letters, is_literal}
-use Rattle.plain_parts.specs.declared.word.PartRead.{PartRead}
-use Rattle.plain_parts.specs.declared.word.PartRead.TheVariants as part
+use Rattle.plain_parts.specs.declared.word.Lanes.{Lanes}
 
 -- a text that begins with the bytes of a word
 pub record Begins (s : List ℕ) (word : ℕ) : Type 0 where
@@ -24,12 +23,12 @@ pub record WeightIs (s : List ℕ) (negative : Bool) (digits taken : ℕ) : Type
   pub front : negative ≡ eqb (byte_at s 0) minus
   pub part : PartIs (sign s) s digits taken
 
-abbrev pub WeightSays : List ℕ → PartRead → Type 0
-WeightSays s part.Other = is_weight s ≡ false
-WeightSays s (part.Lanes marked digits taken) = WeightIs s marked digits taken
+abbrev pub WeightSays : List ℕ → Option Lanes → Type 0
+WeightSays s None = is_weight s ≡ false
+WeightSays s (Some r) = WeightIs s r.marked r.digits r.taken
 
 -- whichever text begins with the word
-abbrev pub WeightIn : ℕ → PartRead → Type 0
+abbrev pub WeightIn : ℕ → Option Lanes → Type 0
 WeightIn word r = (s : List ℕ) → Begins s word → WeightSays s r
 
 pub record LiteralIs (s : List ℕ) (negated : Bool) (digits taken : ℕ) : Type 0 where
@@ -37,9 +36,9 @@ pub record LiteralIs (s : List ℕ) (negated : Bool) (digits taken : ℕ) : Type
   pub letter : byte_at s (letters s - 1) ≡ letter_x
   pub part : PartIs (letters s) s digits taken
 
-abbrev pub LiteralSays : List ℕ → PartRead → Type 0
-LiteralSays s part.Other = is_literal s ≡ false
-LiteralSays s (part.Lanes marked digits taken) = LiteralIs s marked digits taken
+abbrev pub LiteralSays : List ℕ → Option Lanes → Type 0
+LiteralSays s None = is_literal s ≡ false
+LiteralSays s (Some r) = LiteralIs s r.marked r.digits r.taken
 
-abbrev pub LiteralIn : ℕ → PartRead → Type 0
+abbrev pub LiteralIn : ℕ → Option Lanes → Type 0
 LiteralIn word r = (s : List ℕ) → Begins s word → LiteralSays s r

@@ -1,10 +1,9 @@
 -- Eight bytes as one number, a lane of eight bits for each, the first byte lowest; digits in lanes; the first marked
 -- bit that it has not.
-use Rattle.std.specs.Prelude.{ℕ, zero, suc, ◌+◌, ◌*◌, ◌/◌, ◌%◌, ◌^◌, ◌≤◌, ◌<◌, ◌≡◌, Bool, true, false, ◌&&◌, List, [], ◌∷◌, map, leb, take}
+use Rattle.std.specs.Prelude.{ℕ, zero, suc, ◌+◌, ◌*◌, ◌/◌, ◌%◌, ◌^◌, ◌≤◌, ◌<◌, ◌≡◌, Bool, true, false, ◌&&◌, List, [], ◌∷◌, map, leb, take, Option, Some, None}
 use Rattle.definitions.specs.Bytes.{is_digit}
 use Rattle.definitions.specs.Number.{value}
-use Rattle.plain_parts.specs.declared.word.PartRead.{PartRead}
-use Rattle.plain_parts.specs.declared.word.PartRead.TheVariants as part
+use Rattle.plain_parts.specs.declared.word.Lanes.{Lanes}
 
 -- the first n bytes of a number
 unfoldable pub lanes : ℕ → ℕ → List ℕ
@@ -46,9 +45,9 @@ pub record DigitsIn (bytes : List ℕ) (marked marked' : Bool) (taken taken' y :
   pub long : taken' ≡ taken
   pub are : DigitsAre bytes y
 
-abbrev pub DigitsSay : ℕ → ℕ → Bool → ℕ → PartRead → Type 0
-DigitsSay word bits marked taken part.Other = all_bytes is_digit (take (bits / 8) (lanes 8 word)) ≡ false
-DigitsSay word bits marked taken (part.Lanes marked' y taken') = DigitsIn (take (bits / 8) (lanes 8 word)) marked marked' taken taken' y
+abbrev pub DigitsSay : ℕ → ℕ → Bool → ℕ → Option Lanes → Type 0
+DigitsSay word bits marked taken None = all_bytes is_digit (take (bits / 8) (lanes 8 word)) ≡ false
+DigitsSay word bits marked taken (Some r) = DigitsIn (take (bits / 8) (lanes 8 word)) marked r.marked taken r.taken r.digits
 
 -- no bit, or one that is set in the marks and not in the word; and each that is set in the marks below it is set in the
 -- word

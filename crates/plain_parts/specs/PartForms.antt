@@ -1,13 +1,11 @@
 -- What are the parts of a plain term? `-12 `: a weight of at most seven bytes, `-` or nothing and digits. `~x345 `: a
 -- literal of at most seven bytes, `x` or `~x` and digits, a file number above 0. One space stands behind each, and at
 -- least eight bytes are left.
-use Rattle.std.specs.Prelude.{ℕ, ◌+◌, ◌-◌, Bool, cond, ◌&&◌, List, eqb, leb, ltb, length, drop, get_or}
+use Rattle.std.specs.Prelude.{ℕ, ◌+◌, ◌-◌, Bool, cond, ◌&&◌, List, eqb, leb, ltb, length, drop, get_or, Option, Some, None}
 use Rattle.definitions.specs.Bytes.{space, minus, letter_x, tilde}
 use Rattle.definitions.specs.Number.{leading, value}
 use Rattle.plain_parts.specs.declared.PlainWeight.{PlainWeight}
-use Rattle.plain_parts.specs.declared.PlainWeight.TheVariants as weight
 use Rattle.plain_parts.specs.declared.PlainLiteral.{PlainLiteral}
-use Rattle.plain_parts.specs.declared.PlainLiteral.TheVariants as literals
 
 -- the byte at a place; 0 behind the end
 abbrev pub byte_at : List ℕ → ℕ → ℕ
@@ -42,9 +40,9 @@ weight_at s =
     cond (leb 8 (length s) && is_weight s)
     (found (eqb (byte_at s 0) minus) (value (digits_of (sign s) s)) (bytes_of (sign s) s)) nothing
 
-abbrev pub said_weight : PlainWeight → Found
-said_weight (weight.Weight negative size taken) = found negative size taken
-said_weight weight.Other = nothing
+abbrev pub said_weight : Option PlainWeight → Found
+said_weight (Some w) = found w.negative w.size w.taken
+said_weight None = nothing
 
 -- ---- a literal: `x` or `~x`, and digits
 unfoldable pub letters : List ℕ → ℕ
@@ -62,6 +60,6 @@ literal_at s =
     cond (leb 8 (length s) && is_numbered s)
     (found (eqb (byte_at s 0) tilde) (value (digits_of (letters s) s)) (bytes_of (letters s) s)) nothing
 
-abbrev pub said_literal : PlainLiteral → Found
-said_literal (literals.Literal negated number taken) = found negated number taken
-said_literal literals.Other = nothing
+abbrev pub said_literal : Option PlainLiteral → Found
+said_literal (Some l) = found l.negated l.number l.taken
+said_literal None = nothing

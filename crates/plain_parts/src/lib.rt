@@ -9,80 +9,57 @@ mod word;
 ghost use Rattle.std.specs.Prelude.{◌≡◌};
 ghost use Rattle.plain_parts.specs.PartForms.{weight_at, literal_at, said_weight, said_literal};
 
-use crate::word::PartRead;
-
-// A weight, by its sign and its size, and the bytes that it takes without the space behind it; or anything else.
-#[derive(Clone, Copy)]
-pub enum PlainWeight {
-    Weight {
-        negative: bool,
-        size: u64,
-        taken: usize,
-    },
-    Other,
+// A weight, by its sign and its size, and the bytes that it takes without the space behind it.
+#[derive(Clone, Copy, Debug, PartialEq, Eq)]
+pub struct PlainWeight {
+    pub negative: bool,
+    pub size: u64,
+    pub taken: usize,
 }
 
-// A literal, by the file number of its variable, and the bytes that it takes without the space behind it; or anything
-// else.
-#[derive(Clone, Copy)]
-pub enum PlainLiteral {
-    Literal {
-        negated: bool,
-        number: u64,
-        taken: usize,
-    },
-    Other,
+// A literal, by the file number of its variable, and the bytes that it takes without the space behind it.
+#[derive(Clone, Copy, Debug, PartialEq, Eq)]
+pub struct PlainLiteral {
+    pub negated: bool,
+    pub number: u64,
+    pub taken: usize,
 }
 
 // The weight at the front of s: a `-` or none, digits, and a space behind them.
-pub fn plain_weight(s: &[u8]) -> PlainWeight
+pub fn plain_weight(s: &[u8]) -> Option<PlainWeight>
     ensures { said_weight result ≡ weight_at s.now }
 {
     if s.len() < 8 {
-        return PlainWeight::Other;
+        return None;
     }
-    let PartRead::Lanes {
-        marked,
-        digits,
-        taken,
-    } = crate::parts::weight_in(crate::word::first_word(s))
-    else {
-        return PlainWeight::Other;
-    };
-    if s[taken] != b' ' {
-        return PlainWeight::Other;
+    let lanes = crate::parts::weight_in(crate::word::first_word(s))?;
+    if s[lanes.taken] != b' ' {
+        return None;
     }
-    PlainWeight::Weight {
-        negative: marked,
-        size: crate::word::lane_value(digits),
-        taken,
-    }
+    Some(PlainWeight {
+        negative: lanes.marked,
+        size: crate::word::lane_value(lanes.digits),
+        taken: lanes.taken,
+    })
 }
 
 // The literal at the front of s: `x` or `~x`, digits that are not all 0, and a space behind them.
-pub fn plain_literal(s: &[u8]) -> PlainLiteral
+pub fn plain_literal(s: &[u8]) -> Option<PlainLiteral>
     ensures { said_literal result ≡ literal_at s.now }
 {
     if s.len() < 8 {
-        return PlainLiteral::Other;
+        return None;
     }
-    let PartRead::Lanes {
-        marked,
-        digits,
-        taken,
-    } = crate::parts::literal_in(crate::word::first_word(s))
-    else {
-        return PlainLiteral::Other;
-    };
-    if s[taken] != b' ' {
-        return PlainLiteral::Other;
+    let lanes = crate::parts::literal_in(crate::word::first_word(s))?;
+    if s[lanes.taken] != b' ' {
+        return None;
     }
-    if digits == 0 {
-        return PlainLiteral::Other;
+    if lanes.digits == 0 {
+        return None;
     }
-    PlainLiteral::Literal {
-        negated: marked,
-        number: crate::word::lane_value(digits),
-        taken,
-    }
+    Some(PlainLiteral {
+        negated: lanes.marked,
+        number: crate::word::lane_value(lanes.digits),
+        taken: lanes.taken,
+    })
 }

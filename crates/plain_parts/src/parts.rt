@@ -2,7 +2,7 @@
 // space. The byte there is looked at later. Assumes nothing.
 ghost use Rattle.plain_parts.specs.InWord.{WeightIn, LiteralIn};
 
-use crate::word::PartRead;
+use crate::word::Lanes;
 
 // Bytes in the lowest lanes of a word.
 const NINE: u64 = 0x39;
@@ -19,21 +19,21 @@ const WEIGHT_GAPS: u64 = 0x1010_1010_1010_1000;
 const LITERAL_GAPS: u64 = 0x1010_1010_1010_0000;
 
 // A weight: a `-` or none, and digits up to the gap.
-pub(crate) fn weight_in(word: u64) -> PartRead
+pub(crate) fn weight_in(word: u64) -> Option<Lanes>
     ensures { WeightIn word result }
 {
     // A sum's end is seen before any digit is looked for.
     if word & 0xff > NINE {
-        return PartRead::Other;
+        return None;
     }
     let gap = crate::word::first_gap(word, WEIGHT_GAPS);
     if gap > 60 {
-        return PartRead::Other;
+        return None;
     }
     let taken = (gap >> 3) as usize;
     if word & 0xff == MINUS {
         if gap < 16 {
-            return PartRead::Other;
+            return None;
         }
         return crate::word::digits_in(word >> 8, gap - 12, true, taken);
     }
@@ -41,22 +41,22 @@ pub(crate) fn weight_in(word: u64) -> PartRead
 }
 
 // A literal: `x` or `~x`, and digits up to the gap.
-pub(crate) fn literal_in(word: u64) -> PartRead
+pub(crate) fn literal_in(word: u64) -> Option<Lanes>
     ensures { LiteralIn word result }
 {
     let gap = crate::word::first_gap(word, LITERAL_GAPS);
     if gap > 60 {
-        return PartRead::Other;
+        return None;
     }
     let taken = (gap >> 3) as usize;
     if word & 0xff == X {
         return crate::word::digits_in(word >> 8, gap - 12, false, taken);
     }
     if word & 0xffff != TILDE_X {
-        return PartRead::Other;
+        return None;
     }
     if gap < 24 {
-        return PartRead::Other;
+        return None;
     }
     crate::word::digits_in(word >> 16, gap - 20, true, taken)
 }

@@ -19,15 +19,12 @@ const LOWER_PAIRS: u64 = 0x0000_ffff_0000_ffff;
 const LOWER_HALF: u64 = 0xffff_ffff;
 
 // A part of a term: whether it is marked by a `-` or a `~`, its digits in the highest lanes, below which all are 0, and
-// the bytes that it takes; or anything else.
-#[derive(Clone, Copy)]
-pub enum PartRead {
-    Lanes {
-        marked: bool,
-        digits: u64,
-        taken: usize,
-    },
-    Other,
+// the bytes that it takes.
+#[derive(Clone, Copy, Debug, PartialEq, Eq)]
+pub struct Lanes {
+    pub marked: bool,
+    pub digits: u64,
+    pub taken: usize,
 }
 
 // The four bytes at the front.
@@ -66,19 +63,19 @@ fn are_digits(y: u64) -> bool
 }
 
 // A part whose digits are the bytes in the lowest `bits` bits of a word, if these are digits.
-pub(crate) fn digits_in(word: u64, bits: u32, marked: bool, taken: usize) -> PartRead
+pub(crate) fn digits_in(word: u64, bits: u32, marked: bool, taken: usize) -> Option<Lanes>
     requires { InLanes bits }
     ensures { DigitsSay word bits marked taken result }
 {
     let digits = (word ^ ZEROS) << (64 - bits);
     if are_digits(digits) {
-        PartRead::Lanes {
+        Some(Lanes {
             marked,
             digits,
             taken,
-        }
+        })
     } else {
-        PartRead::Other
+        None
     }
 }
 

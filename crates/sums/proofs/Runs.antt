@@ -26,8 +26,7 @@ use Rattle.sums.specs.Walked.{TermPut}
 use Rattle.plain.specs.Plain.{said_plain, plain_at, plain_term, PlainFits, PlainIs}
 use Rattle.sums.specs.Run.{Ran, begun, further, RunSays}
 use Rattle.plain.specs.declared.PlainTerm.{PlainTerm}
-use Rattle.plain.specs.declared.PlainRead.{PlainRead}
-use Rattle.plain.specs.declared.PlainRead.TheVariants as read
+use Rattle.std.specs.Prelude.{Option, Some}
 use Rattle.sums.specs.declared.run.PlainRun.{PlainRun}
 use Rattle.sums.proofs.Walking.{put-lengths, Walking, walking-term}
 
@@ -114,7 +113,7 @@ none_passed s = omega arith
 
 -- from an offset on: an answer that is a plain term there, and what is left behind it
 module _ (s : List ℕ) (at n : ℕ) {rest : List ℕ} (is : rest ≡ drop at s) where
-  pub plain-there : (o : Options) (r : PlainRead) (p : PlainTerm) → said_plain r ≡ plain_at o rest → r ≡ read.Plain p n
+  pub plain-there : (o : Options) (r : Option (PlainTerm × ℕ)) (p : PlainTerm) → said_plain r ≡ plain_at o rest → r ≡ Some (p, n)
       → PlainIs o (drop at s) p n
   plain-there o r p h e = plain-is-term o (drop at s) p n (ap (plain_at o) (sym is) ∙ sym h ∙ ap said_plain e)
 

@@ -9,7 +9,7 @@ ghost use Rattle.sums.specs.Run.{RunSays};
 
 use definitions::Options;
 use literals::{FileNumber, Lit, Var};
-use plain::{PlainRead, PlainTerm};
+use plain::PlainTerm;
 use term_checks::SIZE_CAP;
 
 // How many terms are counted and what their absolute weights add up to, with those of a run; and the bytes that the run
@@ -71,19 +71,16 @@ pub(crate) fn walk_plain(
     let mut terms: usize = from;
     let mut size: u64 = before;
     let mut rest = s;
-    loop {
-        let PlainRead::Plain { term, taken } = plain::plain_term(rest, options) else {
-            // told by what is left, so that no turn of the loop adds it up
-            let passed = s.len() - rest.len();
-            return PlainRun {
-                terms,
-                size,
-                taken: passed,
-            };
-        };
+    while let Some((term, taken)) = plain::plain_term(rest, options) {
         put_plain(weights, literals, terms, term, options.first);
         size = add_plain(size, term.size);
         terms += 1;
         rest = &rest[taken..];
+    }
+    PlainRun {
+        terms,
+        size,
+        // told by what is left, so that no turn of the loop adds it up
+        taken: s.len() - rest.len(),
     }
 }

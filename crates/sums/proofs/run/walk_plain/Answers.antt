@@ -13,7 +13,7 @@ use Rattle.plain.specs.declared.PlainTerm.{PlainTerm}
 use Rattle.sums.proofs.Runs.{ran-under, ran-kept, plain-has-byte, ran-plain, plain-there, rest-behind, rest-holds}
 use Rattle.sums.proofs.Runs.{passed, none_passed, left-within, passed-more, left_less}
 use Rattle.sums.proofs.run.walk_plain.Goals as goal
-use Rattle.sums.proofs.run.walk_plain.Goals.{After-add_plain-size, After-put_plain, At-loop-term, In-Plain, Start}
+use Rattle.sums.proofs.run.walk_plain.Goals.{After-add_plain-size, After-put_plain, At-loop-term, In-Some, Start}
 
 -- a turn begins
 module _ (c : At-loop-term) where
@@ -37,28 +37,28 @@ module _ (c : At-loop-term) where
   RanTo = Ran options text start.args.from start.args.before start.args.weights.now start.args.literals.now
 
 -- a plain term stands there
-module _ (c : In-Plain) where
+module _ (c : In-Some) where
   abbrev turn : At-loop-term
-  turn = (goal.at.In-Plain c).At-loop-term
+  turn = (goal.at.In-Some c).At-loop-term
 
   abbrev found : PlainTerm
-  found = c.in-Plain.term
+  found = c.in-Some.term
 
   abbrev bytes : ℕ
-  bytes = c.in-Plain.taken
+  bytes = c.in-Some.taken
 
   plain : PlainIs (options turn) (drop (place turn) (text turn)) found bytes
   plain =
       plain-there (text turn) (place turn) bytes turn.loop-term.invariant.0 (options turn) _ found
-      c.plain_term.ensures c.in-Plain.is
+      c.plain_term.ensures c.in-Some.is
 
 -- and is put and counted
 module _ (c : After-add_plain-size) where
   abbrev put : After-put_plain
   put = (goal.at.After-add_plain-size c).After-put_plain
 
-  abbrev here : In-Plain
-  here = (goal.at.After-add_plain-size c).In-Plain
+  abbrev here : In-Some
+  here = (goal.at.After-add_plain-size c).In-Some
 
   next : RanTo (turn here) (place (turn here) + bytes here) ((turn here).loop-term.terms + 1) c.add_plain-size.result
       put.put_plain.new.weights put.put_plain.new.literals
@@ -75,24 +75,18 @@ module _ (c : After-add_plain-size) where
 pub loop-term-init : goal.loop-term-init
 loop-term-init c = rw (none_passed c.args.s.now) (refl, begun)
 
-pub overflow_sub-passed : goal.overflow_sub-passed
-overflow_sub-passed c = left-within (text (goal.at.overflow_sub-passed c).At-loop-term) c.loop-term.invariant.0
+pub overflow_sub-result : goal.overflow_sub-result
+overflow_sub-result c = left-within (text (goal.at.overflow_sub-result c).At-loop-term) c.loop-term.invariant.0
 
-pub shape_of-weights-in_default : goal.shape_of-weights-in_default
-shape_of-weights-in_default c = (ran-kept c.loop-term.invariant.1).weights
-
-pub shape_of-literals-in_default : goal.shape_of-literals-in_default
-shape_of-literals-in_default c = (ran-kept c.loop-term.invariant.1).literals
-
-pub returns-in_default : goal.returns-in_default
-returns-in_default c = c.loop-term.invariant.1
+pub returns : goal.returns
+returns c = c.loop-term.invariant.1
 
 pub put_plain-requires : goal.put_plain-requires
-put_plain-requires c = (plain (goal.at.put_plain-requires c).In-Plain).fits
+put_plain-requires c = (plain (goal.at.put_plain-requires c).In-Some).fits
 
 pub add_plain-size-requires : goal.add_plain-size-requires
 add_plain-size-requires c =
-    (ran-under (start (turn (goal.at.add_plain-size-requires c).In-Plain)).requires.1 (turn (goal.at.add_plain-size-requires c).In-Plain).loop-term.invariant.1, (plain (goal.at.add_plain-size-requires c).In-Plain).fits.size)
+    (ran-under (start (turn (goal.at.add_plain-size-requires c).In-Some)).requires.1 (turn (goal.at.add_plain-size-requires c).In-Some).loop-term.invariant.1, (plain (goal.at.add_plain-size-requires c).In-Some).fits.size)
 
 pub overflow_add-terms : goal.overflow_add-terms
 overflow_add-terms c = omega (arith, (ran-kept (next c)).within, (ran-kept (next c)).fewer, (start (turn (here c))).requires.0)
