@@ -1,9 +1,9 @@
 -- What a block that was heard makes of a call: refused as it was heard; 12, where the shorter row has too few words; or
 -- both rows with their bits. And what is heard of signed numbers and `x` tokens, by the answer of `heard::hear`.
-use Rattle.std.specs.Prelude.{Result}
+use Rattle.std.specs.Prelude.{Result, Ok, Err}
 use Prim.Native.Nat.{ℕ, ◌<◌, min}
 use mathlib.Core.Path.{◌≡◌, refl, sym, ap, ◌∙◌}
-use mathlib.Core.Bool.{Bool, true, false, cond, not}
+use mathlib.Core.Bool.{Bool, true, false, cond}
 use mathlib.Core.List.{List, [], ◌∷◌, map}
 use native.Mathlib.Omega.{arith}
 use lib.Dec.{leb}
@@ -17,42 +17,29 @@ use Rattle.definitions.proofs.Truths.{never}
 use Rattle.tokens.specs.Said.{form_by}
 use Rattle.settling.specs.Flat.{code_in, said_by}
 use Rattle.heard.proofs.Hearing.{said-heard}
-use Rattle.values.specs.Reads.{ReadsValues}
-use Rattle.definitions.specs.Answers.{said_length}
+use Rattle.values.specs.Reads.{in_words, ReadsValues}
 
 -- ---- from what was heard to the call
 
-pub was-false : (b : Bool) → not b ≡ true → b ≡ false
-was-false true e = let z : ◌≡◌ {A = ℕ} 0 1 = cc in absurd (omega arith)
-was-false false e = refl
-
-pub was-true : (b : Bool) → not b ≡ false → b ≡ true
-was-true true e = refl
-was-true false e = let z : ◌≡◌ {A = ℕ} 0 1 = cc in absurd (omega arith)
-
--- nothing was said: the length stays
-pub length-kept : (n : ℕ) → n ≡ length_after n []
-unfolding length_after
-length-kept n = refl
-
-pub valued-nothing : (ws : List ℕ) → ws ≡ valued [] ws
-unfolding valued
-valued-nothing ws = refl
-
-pub marked-nothing : (ks : List ℕ) → ks ≡ marked [] ks
-unfolding marked
-marked-nothing ks = refl
-
 -- an empty block
-pub read-empty : (s : List ℕ) (n : ℕ) (ws ks : List ℕ) (r : Result ℕ Refusal) → length s ≡ 0 → said_length r ≡ refused (refusal 20 0)
-    → ReadsValues s n ws ks r ws ks
+pub read-empty : (s : List ℕ) (n : ℕ) (ws ks : List ℕ) → length s ≡ 0 → ReadsValues s n ws ks (Err (refusal 20 0)) ws ks
 unfolding valuing held hear values_after known_after
-read-empty [] n ws ks r e q = record { answer = q; values = refl; known = refl }
-read-empty (b ∷ s) n ws ks r e q = absurd (omega arith)
+read-empty [] n ws ks e = record { answer = refl; values = refl; known = refl }
+read-empty (b ∷ s) n ws ks e = absurd (omega arith)
 
 module _ (s : List ℕ) (n : ℕ) (ws ks : List ℕ) where
   abbrev pub Heard : Outcome (List ℕ)
   Heard = hear (form_of s) n ws ks [] (items_from front 0 s)
+
+  -- what is refused changes nothing
+  leaves : (r : Refusal) → valuing s n ws ks ≡ refused r → ReadsValues s n ws ks (Err r) ws ks
+  unfolding values_after known_after
+  leaves r v =
+      record {
+        answer = sym (ap (new_length n) v);
+        values = sym (ap (λ (o : Outcome (List ℕ)). values_after o ws) v);
+        known = sym (ap (λ (o : Outcome (List ℕ)). known_after o ks) v);
+      }
 
   module _ (some : 0 < length s) where
     whole : valuing s n ws ks ≡ held n (min (length ws) (length ks)) Heard
@@ -65,55 +52,45 @@ module _ (s : List ℕ) (n : ℕ) (ws ks : List ℕ) where
         by (b ∷ s) h = refl
 
     -- refused as it was heard
-    pub read-refused : (number place : ℕ) (r : Result ℕ Refusal) → Heard ≡ refused (refusal number place)
-        → said_length r ≡ refused (refusal number place)
-        → ReadsValues s n ws ks r ws ks
+    pub read-refused : (r : Refusal) → Heard ≡ refused r → ReadsValues s n ws ks (Err r) ws ks
     unfolding held values_after known_after
-    read-refused number place r h q =
-        let v : valuing s n ws ks ≡ refused (refusal number place) = whole ∙ ap (held n (min (length ws) (length ks))) h in
-        record {
-          answer = q ∙ sym (ap (new_length n) v);
-          values = sym (ap (λ (x : Outcome (List ℕ)). values_after x ws) v);
-          known = sym (ap (λ (x : Outcome (List ℕ)). known_after x ks) v);
-        }
+    read-refused r h = leaves r (whole ∙ ap (held n (min (length ws) (length ks))) h)
 
-    module _ (cs : List ℕ) (h : Heard ≡ accepted cs) (m needed : ℕ) (long : m ≡ length_after n cs) (words : needed ≡ words_for m) where
+    module _ (cs : List ℕ) (h : Heard ≡ accepted cs) (m : ℕ) (long : m ≡ length_after n cs) where
+      by-words : valuing s n ws ks ≡ cond (leb (words_for m) (min (length ws) (length ks))) (accepted cs) (refused (refusal 12 (words_for m)))
+      unfolding held
+      by-words = rw long (whole ∙ ap (held n (min (length ws) (length ks))) h)
+
       -- too few words
-      pub read_short : (r : Result ℕ Refusal) → leb needed (min (length ws) (length ks)) ≡ false → said_length r ≡ refused (refusal 12 needed)
-          → ReadsValues s n ws ks r ws ks
-      unfolding held values_after known_after
-      read_short r f q =
-          let e : needed ≡ words_for (length_after n cs) = words ∙ ap words_for long in
-          let v : valuing s n ws ks ≡ refused (refusal 12 needed) =
-          whole ∙ ap (held n (min (length ws) (length ks))) h ∙ short (length_after n cs) e f in
-          record {
-            answer = q ∙ sym (ap (new_length n) v);
-            values = sym (ap (λ (x : Outcome (List ℕ)). values_after x ws) v);
-            known = sym (ap (λ (x : Outcome (List ℕ)). known_after x ks) v);
-          }
+      pub read_short : (r : Refusal) → Err r ≡ in_words m (min (length ws) (length ks)) → ReadsValues s n ws ks (Err r) ws ks
+      read_short r e = by (leb (words_for m) (min (length ws) (length ks))) refl
         where
-          short : (l : ℕ) → needed ≡ words_for l → leb needed (min (length ws) (length ks)) ≡ false
-              → cond (leb (words_for l) (min (length ws) (length ks))) (accepted cs) (refused (refusal 12 (words_for l)))
-              ≡ refused (refusal 12 needed)
-          short l e f = rw (sym e, f)
+          by : (b : Bool) → leb (words_for m) (min (length ws) (length ks)) ≡ b → ReadsValues s n ws ks (Err r) ws ks
+          by true f = never (cc (rw f at e))
+          by false f = let z : r ≡ refusal 12 (words_for m) = cc (rw f at e) in leaves r (by-words ∙ rw (f, z))
 
       -- both rows with their bits
-      pub read-fine : (r : Result ℕ Refusal) (ws' ks' : List ℕ) → leb needed (min (length ws) (length ks)) ≡ true → said_length r ≡ accepted m
-          → ws' ≡ valued cs ws → ks' ≡ marked cs ks
-          → ReadsValues s n ws ks r ws' ks'
-      unfolding held values_after known_after
-      read-fine r ws' ks' f q x y =
-          let e : needed ≡ words_for (length_after n cs) = words ∙ ap words_for long in
-          let v : valuing s n ws ks ≡ accepted cs = whole ∙ ap (held n (min (length ws) (length ks))) h ∙ fine (length_after n cs) e f in
-          record {
-            answer = q ∙ ap accepted long ∙ sym (ap (new_length n) v);
-            values = x ∙ sym (ap (λ (z : Outcome (List ℕ)). values_after z ws) v);
-            known = y ∙ sym (ap (λ (z : Outcome (List ℕ)). known_after z ks) v);
-          }
+      pub read-fine : (k : ℕ) (ws' ks' : List ℕ) → Ok k ≡ in_words m (min (length ws) (length ks)) → ws' ≡ valued cs ws → ks' ≡ marked cs ks
+          → ReadsValues s n ws ks (Ok k) ws' ks'
+      unfolding values_after known_after
+      read-fine k ws' ks' e x y = by (leb (words_for m) (min (length ws) (length ks))) refl
         where
-          fine : (l : ℕ) → needed ≡ words_for l → leb needed (min (length ws) (length ks)) ≡ true
-              → cond (leb (words_for l) (min (length ws) (length ks))) (accepted cs) (refused (refusal 12 (words_for l))) ≡ accepted cs
-          fine l e f = rw (sym e, f)
+          by : (b : Bool) → leb (words_for m) (min (length ws) (length ks)) ≡ b → ReadsValues s n ws ks (Ok k) ws' ks'
+          by true f =
+              let z : k ≡ m = cc (rw f at e) in
+              let v : valuing s n ws ks ≡ accepted cs = by-words ∙ rw f in
+              record {
+                answer = ap accepted (z ∙ long) ∙ sym (ap (new_length n) v);
+                values = x ∙ sym (ap (λ (o : Outcome (List ℕ)). values_after o ws) v);
+                known = y ∙ sym (ap (λ (o : Outcome (List ℕ)). known_after o ks) v);
+              }
+          by false f = never (cc (rw f at e))
+
+    -- nothing was said: the length stays
+    pub read-nothing : Heard ≡ accepted [] → (r : Result ℕ Refusal) → r ≡ in_words n (min (length ws) (length ks)) → ReadsValues s n ws ks r ws ks
+    unfolding length_after valued marked
+    read-nothing h (Ok k) e = read-fine [] h n refl k ws ks e refl refl
+    read-nothing h (Err r) e = read_short [] h n refl r e
 
 -- ---- signed numbers and `x` tokens
 was-refused : (n : ℕ) (x : Outcome (List ℕ)) (i : Refusal) → refused i ≡ new_length n x → x ≡ refused i

@@ -4,39 +4,26 @@
 
 mod string;
 
-ghost use Rattle.std.specs.Prelude.{◌≡◌, ◌<◌, min, leb, length};
-ghost use Rattle.definitions.specs.Answers.{said_length};
-ghost use Rattle.definitions.specs.Refusal.{refusal};
-ghost use Rattle.definitions.specs.Table.{refused};
-ghost use Rattle.definitions.specs.Values.{form_of, words_for};
+ghost use Rattle.std.specs.Prelude.{◌≡◌, ◌<◌, min, length};
+ghost use Rattle.definitions.specs.Values.{form_of};
 ghost use Rattle.definitions.specs.declared.Form.TheVariants.{ZerosAndOnes};
 ghost use Rattle.tokens.specs.Said.{form_by};
-ghost use Rattle.values.specs.Reads.{ReadsValues};
+ghost use Rattle.values.specs.Reads.{in_words, ReadsValues};
 
 use definitions::{Form, Refusal};
 
-fn refused(number: u8, place: u64) -> Result<usize, Refusal>
-    ensures { said_length result ≡ refused (refusal number place) }
+// A length, where both rows have its words; else 12 with the words needed.
+fn in_words(after: u64, values: &[u64], known: &[u64]) -> Result<usize, Refusal>
+    ensures { result ≡ in_words after (min (length values.now) (length known.now)) }
 {
-    Err(Refusal { number, place })
-}
-
-// The words that a length needs.
-fn words_for(length: u64) -> u64
-    ensures { result ≡ words_for length }
-{
-    let whole = length / 64;
-    if length % 64 == 0 { whole } else { whole + 1 }
-}
-
-// Whether both rows have as many words.
-fn has_words(needed: u64, values: &[u64], known: &[u64]) -> bool
-    ensures { result ≡ leb needed (min (length values.now) (length known.now)) }
-{
-    if (values.len() as u64) < needed {
-        return false;
+    let needed = after.div_ceil(64);
+    if (values.len().min(known.len()) as u64) < needed {
+        return Err(Refusal {
+            number: 12,
+            place: needed,
+        });
     }
-    needed <= known.len() as u64
+    Ok(after as usize)
 }
 
 // Signed numbers or `x` tokens: 20, 21, 5 and 22, as `heard::hear` finds them; then 12; then the bits.
@@ -51,17 +38,10 @@ fn read_literals(
     requires form { form_of block.now ≡ form_by named }
     ensures { ReadsValues block.now kept values.old known.old result values.new known.new }
 {
-    match heard::hear(block, named, kept, values, known) {
-        Err(found) => refused(found.number, found.place),
-        Ok(after) => {
-            let needed = words_for(after as u64);
-            if !has_words(needed, values, known) {
-                return refused(12, needed);
-            }
-            settling::settle(block, named, values, known);
-            Ok(after)
-        }
-    }
+    let heard = heard::hear(block, named, kept, values, known)?;
+    let after = in_words(heard as u64, values, known)?;
+    settling::settle(block, named, values, known);
+    Ok(after)
 }
 
 // One string: 20, 5, 22 and 20 again, as `string::check` finds them; then 12; then the bits.
@@ -75,25 +55,13 @@ fn read_string(
     requires form { form_of block.now ≡ ZerosAndOnes }
     ensures { ReadsValues block.now kept values.old known.old result values.new known.new }
 {
-    match string::check(block, kept, values, known) {
-        Err(stop) => refused(stop.number, stop.place),
-        Ok(None) => {
-            let needed = words_for(kept);
-            if !has_words(needed, values, known) {
-                return refused(12, needed);
-            }
-            Ok(kept as usize)
-        }
-        Ok(Some(string)) => {
-            let after = kept + (string.end - string.place) as u64;
-            let needed = words_for(after);
-            if !has_words(needed, values, known) {
-                return refused(12, needed);
-            }
-            string::append(&block[string.place..string.end], kept, values, known);
-            Ok(after as usize)
-        }
-    }
+    let Some(string) = string::check(block, kept, values, known)? else {
+        return in_words(kept, values, known);
+    };
+    let text = &block[string.place..string.end];
+    let length = in_words(kept + text.len() as u64, values, known)?;
+    string::append(text, kept, values, known);
+    Ok(length)
 }
 
 // A block on top of what is known: the new length, or a refusal. "per line 20, then by token 21, 5, 22, each placed at
@@ -106,8 +74,11 @@ pub fn read_values(
 ) -> Result<usize, Refusal>
     ensures { ReadsValues block.now length values.old known.old result values.new known.new }
 {
-    if block.len() == 0 {
-        return refused(20, 0);
+    if block.is_empty() {
+        return Err(Refusal {
+            number: 20,
+            place: 0,
+        });
     }
     match forms::form_of(block) {
         Form::ZerosAndOnes => read_string(block, length, values, known),
