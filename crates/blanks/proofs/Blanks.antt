@@ -27,11 +27,11 @@ pub passed_none : (s : List ℕ) → Passed s 0
 passed_none s = record { within = omega arith; count = omega arith }
 
 module _ (s : List ℕ) (i : ℕ) (p : Passed s i) where
-  pub passed-all : length s ≤ i → i ≡ blanks s
+  pub passed-all : length s ≤ i → length s ≡ blanks s
   unfolding blanks
   passed-all h =
       let z : blanks (drop i s) ≡ 0 = rw (drop_of_length-le s h) in
-      omega (arith, p.count)
+      omega (arith, p.count, p.within)
 
   module _ (h : i < length s) where
     pub passed-end : (get_or s i 0 ≡ space → ⊥) → (get_or s i 0 ≡ tab → ⊥) → i ≡ blanks s

@@ -41,6 +41,29 @@ module _ (s : List ℕ) (i : ℕ) where
       cr-alone g e =
           rw (drop-cons s i 0 h, ne_eqb (get_or s i 0) lf n, drop-cons s (suc i) 0 g, ne_eqb (get_or s (suc i) 0) lf e) (simp and-false)
 
+-- ---- the line ending at the front, by the bytes there
+module _ (s : List ℕ) where
+  pub line_ending-empty : length s < 1 → line_ending s ≡ 0
+  line_ending-empty h = nothing_left s 0 (omega arith)
+
+  pub line_ending-lf : 1 ≤ length s → get_or s 0 0 ≡ lf → line_ending s ≡ 1
+  line_ending-lf h e = ends-lf s 0 (omega arith) e
+
+  pub line_ending-cr-lf : 2 ≤ length s → get_or s 0 0 ≡ cr → get_or s 1 0 ≡ lf → line_ending s ≡ 2
+  line_ending-cr-lf h e f = ends-cr-lf s 0 (omega arith) e (omega arith) f
+
+  pub line_ending-other : 1 ≤ length s → (get_or s 0 0 ≡ lf → ⊥) → (get_or s 0 0 ≡ cr → ⊥) → line_ending s ≡ 0
+  line_ending-other h n e = no-cr s 0 (omega arith) n e
+
+  pub line_ending-short : 1 ≤ length s → length s < 2 → (get_or s 0 0 ≡ lf → ⊥) → line_ending s ≡ 0
+  line_ending-short h l n = cr-at-end s 0 (omega arith) n (omega arith)
+
+  pub line_ending-alone : 2 ≤ length s → (get_or s 0 0 ≡ lf → ⊥) → (get_or s 1 0 ≡ lf → ⊥) → line_ending s ≡ 0
+  line_ending-alone h n e = cr-alone s 0 (omega arith) n (omega arith) e
+
+-- what `line_ending_of` comes to in each of its cases
+pub ruleset by_bytes = (line_ending-empty, line_ending-lf, line_ending-cr-lf, line_ending-other, line_ending-short, line_ending-alone)
+
 -- ---- the walk
 module _ (s : List ℕ) (i : ℕ) (h : i < length s) where
   stops : (n : ℕ) → line_ending (drop i s) ≡ suc n → until_ending (drop i s) ≡ 0
@@ -70,7 +93,7 @@ module _ (s : List ℕ) where
       let e : line_ending (drop k s) ≡ 0 = cr-alone s k (omega arith) p.1 h n in
       rw (add-one (suc k)) (omega (arith, p.0, goes_on s k (omega arith) e), n)
 
-  pub sought-all : (i : ℕ) → Sought s i → i ≡ length s → i ≡ until_ending s
+  pub sought-all : (i : ℕ) → Sought s i → i ≡ length s → length s ≡ until_ending s
   unfolding until_ending
   sought-all zero p h =
       let g : length s ≤ 0 = omega arith in

@@ -31,18 +31,10 @@ pub fn begins(c: Class) -> Beginning
     ensures { result ≡ begins c }
 {
     match c {
-        Class::Digit => Beginning::Constraint,
-        Class::Sign => Beginning::Constraint,
-        Class::Blank => Beginning::Nothing,
-        Class::Cr => Beginning::Nothing,
-        Class::Lf => Beginning::Nothing,
-        Class::Semicolon => Beginning::Nothing,
+        Class::Digit | Class::Sign => Beginning::Constraint,
         Class::Star => Beginning::Comment,
-        Class::Tilde => Beginning::Nothing,
-        Class::LetterX => Beginning::Nothing,
         Class::LetterM => Beginning::Objective,
-        Class::Operator => Beginning::Nothing,
-        Class::Other => Beginning::Nothing,
+        _ => Beginning::Nothing,
     }
 }
 
