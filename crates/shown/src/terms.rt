@@ -22,7 +22,7 @@ pub struct Style {
 
 // A term as it is printed: its weight in the row, the weight that is printed, whether `~` stands before the variable,
 // and the variable; and whether the bound falls by the weight.
-#[derive(Clone, Copy)]
+#[derive(Clone, Copy, Debug, PartialEq, Eq)]
 pub struct Shown {
     pub own: i64,
     pub weight: i64,
@@ -53,39 +53,25 @@ pub fn show_term(style: Style, weight: i64, code: u32) -> Shown
 {
     let own = own_weight(style.unit, weight);
     let l = Lit::of_code(code);
-    let var = l.var();
-    if own < 0 {
-        return Shown {
-            own,
-            weight: own,
-            tilde: false,
-            var,
-            falls: false,
-        };
-    }
-    if is_negated(style.flip, l) {
-        if style.plain {
-            return Shown {
-                own,
-                weight: -own,
-                tilde: false,
-                var,
-                falls: true,
-            };
-        }
-        return Shown {
-            own,
-            weight: own,
-            tilde: true,
-            var,
-            falls: false,
-        };
-    }
-    Shown {
+    let plain = Shown {
         own,
         weight: own,
         tilde: false,
-        var,
+        var: l.var(),
         falls: false,
+    };
+    if own < 0 || !is_negated(style.flip, l) {
+        return plain;
+    }
+    if style.plain {
+        return Shown {
+            weight: -own,
+            falls: true,
+            ..plain
+        };
+    }
+    Shown {
+        tilde: true,
+        ..plain
     }
 }
