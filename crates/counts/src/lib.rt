@@ -9,7 +9,7 @@ ghost use Rattle.definitions.specs.File.{lines_of, statements, file};
 ghost use Rattle.counts.specs.Fitted.{fitted_totals};
 
 use definitions::{FILE_LIMIT, Options, Refusal, Totals};
-use statements::StatementRead;
+use statements::Line;
 
 fn count_statements(s: &[u8], options: Options) -> Result<Totals, Refusal>
     ensures { said_counted result ≡ counted (lines_of (statements options s.now)) }
@@ -19,19 +19,19 @@ fn count_statements(s: &[u8], options: Options) -> Result<Totals, Refusal>
     let mut at: usize = 0;
     loop {
         match statements::opb_data(&s[at..], options) {
-            StatementRead::End => {
+            Ok(Some(Line { entry, taken })) => {
+                rows += 1;
+                terms += columns::terms_of(entry.kind, entry.count);
+                at += taken;
+            }
+            Ok(None) => {
                 return Ok(Totals { rows, terms });
             }
-            StatementRead::Refused(refusal) => {
+            Err(refusal) => {
                 return Err(Refusal {
                     number: refusal.number,
                     place: at as u64 + refusal.place,
                 });
-            }
-            StatementRead::Line { entry, taken } => {
-                rows += 1;
-                terms += columns::terms_of(entry.kind, entry.count);
-                at += taken;
             }
         }
     }

@@ -3,7 +3,6 @@ ghost use Rattle.definitions.specs.Stepping.{terms_at_step};
 ghost use Rattle.fills.specs.FillsTerms.{FillsTerms};
 
 use definitions::{Options, Refusal};
-use walker::Stepped;
 
 // The terms of the statement at an offset; 10 where they do not fit.
 pub fn fill_at(
@@ -16,13 +15,8 @@ pub fn fill_at(
     ensures { FillsTerms (terms_at_step options file.now at weights.old literals.old) weights.old literals.old result weights.new literals.new }
 {
     match walker::step_at(file, options, at) {
-        Stepped::End => Ok(0),
-        Stepped::Refused(refusal) => Err(refusal),
-        Stepped::Line { entry: _, next: _ } => crate::terms::fill_terms(
-            &file[at..],
-            options,
-            weights,
-            literals,
-        ),
+        Ok(Some(_)) => crate::terms::fill_terms(&file[at..], options, weights, literals),
+        Ok(None) => Ok(0),
+        Err(refusal) => Err(refusal),
     }
 }

@@ -5,7 +5,7 @@ ghost use Rattle.definitions.specs.Stepping.{stepped_by, terms_by, columns_room}
 ghost use Rattle.fills.specs.FillsTerms.{FillsTerms};
 
 use definitions::{Options, Refusal};
-use statements::StatementRead;
+use statements::Line;
 
 // The statement at the front of s, as `opb_data` reads it, a refusal's place counted from there; 10 where its terms do
 // not fit; nothing at the end.
@@ -18,9 +18,9 @@ pub fn fill_terms(
     ensures { FillsTerms (terms_by (columns_room weights.old literals.old) (stepped_by 0 (statement options s.now))) weights.old literals.old result weights.new literals.new }
 {
     match statements::opb_data(s, options) {
-        StatementRead::End => Ok(0),
-        StatementRead::Refused(refusal) => Err(refusal),
-        StatementRead::Line { entry, taken: _ } => {
+        Ok(None) => Ok(0),
+        Err(refusal) => Err(refusal),
+        Ok(Some(Line { entry, taken: _ })) => {
             let terms = columns::terms_of(entry.kind, entry.count);
             if columns::term_room(weights, literals) < terms {
                 return Err(Refusal {
@@ -28,7 +28,8 @@ pub fn fill_terms(
                     place: terms as u64,
                 });
             }
-            statements::walk_statement(s, options, weights, literals);
+            // It answers the line that was read.
+            let _ = statements::walk_statement(s, options, weights, literals);
             Ok(terms)
         }
     }

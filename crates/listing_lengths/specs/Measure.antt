@@ -1,14 +1,13 @@
 -- What the walk that measures a file counts of its text, with no table: the lengths of its house lines, up to the limit
 -- of a needed number.
-use Rattle.std.specs.Prelude.{ℕ, List, length}
+use Rattle.std.specs.Prelude.{ℕ, List, length, Result, Ok, Err}
 use Rattle.definitions.specs.Lists.{joined}
 use Rattle.definitions.specs.Refusal.{needed}
+use Rattle.definitions.specs.declared.Refusal.{Refusal}
 use Rattle.definitions.specs.Row.{Term, Line}
 use Rattle.definitions.specs.Table.{Outcome, refused, accepted, all_terms}
 use Rattle.definitions.specs.House.{term_fields, house_line}
 use Rattle.listing_lengths.specs.declared.Sizes.{Sizes}
-use Rattle.listing_lengths.specs.declared.Measured.{Measured}
-use Rattle.listing_lengths.specs.declared.Measured.TheVariants as measured
 
 -- the fields of terms
 abbrev pub fields_length : ℕ → List Term → ℕ
@@ -23,6 +22,6 @@ file_sizes first (refused r) = refused r
 file_sizes first (accepted ls) = accepted (sizes_of first ls)
 
 -- 01's number and place, or the sizes
-abbrev pub said_measured : Measured → Outcome Sizes
-said_measured (measured.Refused r) = refused r
-said_measured (measured.Lines z) = accepted z
+abbrev pub said_measured : Result Sizes Refusal → Outcome Sizes
+said_measured (Ok z) = accepted z
+said_measured (Err r) = refused r

@@ -13,24 +13,18 @@ ghost use Rattle.definitions.specs.House.{listing};
 ghost use Rattle.listing_lengths.specs.Measure.{file_sizes, said_measured};
 
 use definitions::{FILE_LIMIT, Options, Refusal};
-use statements::StatementRead;
+use statements::Line;
 
 // How many rows and terms a file has, and the length of their lines.
-#[derive(Clone, Copy)]
+#[derive(Clone, Copy, Debug, PartialEq, Eq)]
 pub(crate) struct Sizes {
     pub rows: usize,
     pub terms: usize,
     pub lines: u64,
 }
 
-#[derive(Clone, Copy)]
-pub(crate) enum Measured {
-    Refused(Refusal),
-    Lines(Sizes),
-}
-
 // Statement by statement, as the reader's first walk.
-fn measure_statements(s: &[u8], options: Options) -> Measured
+fn measure_statements(s: &[u8], options: Options) -> Result<Sizes, Refusal>
     ensures { said_measured result ≡ file_sizes options.first (lines_of (statements options s.now)) }
 {
     let mut rows: usize = 0;
@@ -39,32 +33,32 @@ fn measure_statements(s: &[u8], options: Options) -> Measured
     let mut at: usize = 0;
     loop {
         match statements::opb_data(&s[at..], options) {
-            StatementRead::End => {
-                return Measured::Lines(Sizes { rows, terms, lines });
-            }
-            StatementRead::Refused(refusal) => {
-                return Measured::Refused(Refusal {
-                    number: refusal.number,
-                    place: at as u64 + refusal.place,
-                });
-            }
-            StatementRead::Line { entry, taken } => {
+            Ok(Some(Line { entry, taken })) => {
                 let line = statement::statement_length(&s[at..], options, entry);
                 lines = lengths::add_needed(lines, line);
                 rows += 1;
                 terms += columns::terms_of(entry.kind, entry.count);
                 at += taken;
             }
+            Ok(None) => {
+                return Ok(Sizes { rows, terms, lines });
+            }
+            Err(refusal) => {
+                return Err(Refusal {
+                    number: refusal.number,
+                    place: at as u64 + refusal.place,
+                });
+            }
         }
     }
 }
 
 // "Reader's order: 1; then statement by statement".
-fn measure_file(s: &[u8], options: Options) -> Measured
+fn measure_file(s: &[u8], options: Options) -> Result<Sizes, Refusal>
     ensures { said_measured result ≡ file_sizes options.first (file options s.now) }
 {
     if s.len() > FILE_LIMIT {
-        return Measured::Refused(Refusal {
+        return Err(Refusal {
             number: 1,
             place: 0,
         });
@@ -78,8 +72,7 @@ pub fn listing_length(s: &[u8], options: Options, rows: usize, terms: usize) -> 
     ensures { (t : Table) → row_room t ≡ rows → term_room t ≡ terms → result ≡ needed (length (listing options.first (reading options s.now t))) }
 {
     match measure_file(s, options) {
-        Measured::Refused(e) => refusals::refusal_length(e.number, e.place) as u64,
-        Measured::Lines(found) => {
+        Ok(found) => {
             if rows < found.rows {
                 return refusals::refusal_length(9, found.rows as u64) as u64;
             }
@@ -88,5 +81,6 @@ pub fn listing_length(s: &[u8], options: Options, rows: usize, terms: usize) -> 
             }
             house_lengths::text_length(found.rows, found.terms as u64, found.lines, options.first)
         }
+        Err(e) => refusals::refusal_length(e.number, e.place) as u64,
     }
 }

@@ -7,7 +7,7 @@
 use definitions::{Entry, Options, Refusal, Totals};
 use std::io;
 use std::io::Write;
-use walker::Stepped;
+use walker::Step;
 
 // "up to 4,096 rows and 8,192 terms"
 const ROWS: usize = 4096;
@@ -153,15 +153,13 @@ fn print_statements<O: Write, E: Write>(
 ) -> io::Result<()> {
     let options = Options { first: 1 };
     let mut at: usize = 0;
-    loop {
-        let Stepped::Line { entry, next } = walker::step_at(file, options, at) else {
-            return Ok(());
-        };
+    while let Ok(Some(Step { entry, next })) = walker::step_at(file, options, at) {
         if !print_statement(output, errors, file, at, entry, weights, literals, out)? {
-            return Ok(());
+            break;
         }
         at = next;
     }
+    Ok(())
 }
 
 // Columns and output for one statement; it may be as long as the file.

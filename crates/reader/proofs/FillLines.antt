@@ -1,11 +1,9 @@
 -- What the second walk has filled of the six columns where it stands in the file, and what a statement adds: the loop
 -- invariant of `fill_file` as a record.
+use Rattle.std.specs.Prelude.{Option, Some, None, Result, Ok, Err}
 use Prim.Native.Nat.{ℕ, ◌+◌, ◌-◌, ◌≤◌, ◌<◌}
 use mathlib.Core.Path.{◌≡◌, refl, sym, ap, subst, ◌∙◌}
 use mathlib.Core.List.{List, [], ◌∷◌, ◌++◌, map}
-use mathlib.Core.Logic.{inl, inr}
-use types.Run.{OneOf}
-use denote.Enum.Declared.{tag_of}
 use native.Mathlib.Omega.{arith}
 use borrow.Rule.Slice.PartMut.{put_mid}
 use lib.ListN.{length, take, drop, set, length-append, length-drop, take-append-drop}
@@ -36,9 +34,7 @@ use Rattle.statements.specs.Brief.{brief_step}
 use Rattle.statements.specs.Met.{statement_met}
 use Rattle.statements.specs.Said.{said_statement}
 use Rattle.statements.specs.Walked.{StatementWalked}
-use Rattle.statements.specs.declared.row.StatementRead.{StatementRead}
-use Rattle.statements.specs.declared.row.StatementRead.TheVariants as read
-use Rattle.statements.specs.contracts.row.StatementRead.{the_type}
+use Rattle.statements.specs.declared.row.Line as code
 use Rattle.statements.proofs.Briefs.{LineTold, line-told, terms-in-file}
 use Rattle.statements.proofs.MetTerms.{statement-met, stop-met}
 use Rattle.statements.proofs.Rows.{statement-first}
@@ -102,11 +98,10 @@ set-cells t nth at term l y w c e =
 -- ---- where the walk stands
 
 -- an answer that is no line
-no_line : (r : StatementRead) → OneOf (0 ∷ 1 ∷ []) (tag_of the_type r) → (l : Entry) (m : ℕ) → said_statement r ≡ item l m → ⊥
-no_line read.End k l m e = never (cc)
-no_line (read.Refused r) k l m e = never (cc)
-no_line (read.Line x j) (inl k) l m e = omega arith
-no_line (read.Line x j) (inr k) l m e = omega arith
+no_line : (r : Result (Option code.Line) Refusal) → ((x : code.Line) → r ≡ Ok (Some x) → ⊥) → (l : Entry) (m : ℕ) → said_statement r ≡ item l m → ⊥
+no_line (Ok None) k l m e = never (cc)
+no_line (Ok (Some x)) k l m e = k x refl
+no_line (Err r) k l m e = never (cc)
 
 -- the terms of a statement that is a line
 abbrev step_terms : Step Line → List Term
@@ -190,7 +185,7 @@ module _ (o : Options) (s : List ℕ) (t₀ : Table) where
     good r e = never-broken (at-bad (statement o) in_file (statement-moves o) s at i.pre i.stands r e) reads
 
     -- the next statement has filled the parts from `term` on
-    module _ (r : StatementRead) (w : List ℤ) (c : List ℕ)
+    module _ (r : Result (Option code.Line) Refusal) (w : List ℤ) (c : List ℕ)
         (left : StatementWalked o (drop at s) (drop term t.weights) (drop term t.literals) r w c) where
       -- its terms, all of them: there is room
       left-filled : TermsFilled (step_terms (statement o (drop at s))) (drop term t.weights) (drop term t.literals) w c
@@ -228,7 +223,7 @@ module _ (o : Options) (s : List ℕ) (t₀ : Table) where
           (q ∙ ap (λ (x : List Term). over (map f x) (drop term l)) e ∙ ap (over (map f ts)) (sym (rest_of l term)))
 
       -- no line follows
-      pub fills-done : OneOf (0 ∷ 1 ∷ []) (tag_of the_type r)
+      pub fills-done : ((x : code.Line) → r ≡ Ok (Some x) → ⊥)
           → table t.kinds t.firsts t.counts t.bounds weights' literals' ≡ after (reading o s t₀) t₀
       unfolding filled statements after
       fills-done k = by (statement o (drop at s)) refl

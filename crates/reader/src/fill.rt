@@ -6,7 +6,7 @@ ghost use Rattle.definitions.specs.File.{reading};
 ghost use Rattle.reader.specs.Reads.{Ready};
 
 use definitions::Options;
-use statements::StatementRead;
+use statements::Line;
 
 // Every statement of the file, from the front of the columns.
 pub(crate) fn fill_file(
@@ -27,15 +27,12 @@ pub(crate) fn fill_file(
     let mut at: usize = 0;
     let mut row: usize = 0;
     let mut term: usize = 0;
-    loop {
-        let StatementRead::Line { entry, taken } = statements::walk_statement(
-            &s[at..],
-            options,
-            &mut weights[term..],
-            &mut literals[term..],
-        ) else {
-            return;
-        };
+    while let Ok(Some(Line { entry, taken })) = statements::walk_statement(
+        &s[at..],
+        options,
+        &mut weights[term..],
+        &mut literals[term..],
+    ) {
         kinds[row] = entry.kind;
         firsts[row] = columns::first_of(entry.kind, at + entry.first, term);
         counts[row] = entry.count;

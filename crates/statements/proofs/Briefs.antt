@@ -1,4 +1,5 @@
 -- What an answer says of the statement that it is of.
+use Rattle.std.specs.Prelude.{Option, Some, None, Result, Ok}
 use Prim.Native.Nat.{ℕ, ◌+◌, ◌≤◌}
 use mathlib.Core.Path.{◌≡◌, refl, ap, ◌∙◌}
 use mathlib.Core.List.{List}
@@ -17,6 +18,8 @@ use Rattle.columns.specs.Entries.{entry_of, entry_alone}
 use Rattle.columns.specs.Kinds.{terms_of_kind}
 use Rattle.columns.proofs.EntryLaws.{kind-first, line-terms}
 use Rattle.statements.specs.Brief.{entry_at, brief_step}
+use Rattle.statements.specs.Said.{said_statement}
+use Rattle.statements.specs.declared.row.Line as code
 
 pub brief-stop : (x : Step Line) → stop ≡ brief_step x → x ≡ stop
 brief-stop stop e = refl
@@ -62,3 +65,11 @@ terms-in-file at (row r) = refl
 pub entry-in-file : (at : ℕ) (l : Line) → entry_at at (entry_alone l) ≡ entry_alone (in_file at l)
 entry-in-file at (comment f n b) = refl
 entry-in-file at (row r) = ap (λ (f : ℕ). entry_of (kind_number r.kind) f (length r.terms) r.bound) (kind-first r.kind (at + 0) 0)
+
+-- ---- an answer with a line, or with none
+pub line-said : (r : Result (Option code.Line) Refusal) (o : Option code.Line) (l : code.Line) → r ≡ Ok o → o ≡ Some l
+    → said_statement r ≡ item l.entry l.taken
+line-said r o l p q = rw (p, q)
+
+pub end-said : (r : Result (Option code.Line) Refusal) (o : Option code.Line) → r ≡ Ok o → o ≡ None → said_statement r ≡ stop
+end-said r o p q = rw (p, q)

@@ -6,5 +6,5 @@
 mod row;
 mod statement;
 
-pub use row::StatementRead;
+pub use row::Line;
 pub use statement::{opb_data, walk_statement};

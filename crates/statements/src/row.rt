@@ -10,13 +10,12 @@ ghost use Rattle.statements.specs.Said.{said_statement};
 use beginnings::Comment;
 use definitions::{COMMENT, Entry, Fault, Refusal};
 
-// Nothing but blanks; a refusal; a row of the table, with the bytes that its statement takes. A refusal's place and a
-// comment's first are counted from where the reading began; a comment has no terms.
-#[derive(Clone, Copy)]
-pub enum StatementRead {
-    End,
-    Refused(Refusal),
-    Line { entry: Entry, taken: usize },
+// A row of the table, with the bytes that its statement takes. A comment's first is counted from where the reading
+// began, as a refusal's place is; a comment has no terms.
+#[derive(Clone, Copy, Debug, PartialEq, Eq)]
+pub struct Line {
+    pub entry: Entry,
+    pub taken: usize,
 }
 
 // A row's answer, behind a sum of n bytes.
@@ -29,32 +28,32 @@ pub(crate) fn behind(n: usize, r: Result<(Entry, usize), Fault>) -> Result<(Entr
 }
 
 // A row's answer, k blanks on.
-pub(crate) fn row_after(k: usize, r: Result<(Entry, usize), Fault>) -> StatementRead
+pub(crate) fn row_after(k: usize, r: Result<(Entry, usize), Fault>) -> Result<Option<Line>, Refusal>
     requires { Fitting k (said_row r) }
     ensures { said_statement result ≡ row_after k (said_row r) }
 {
     match r {
-        Err(e) => StatementRead::Refused(Refusal {
+        Err(e) => Err(Refusal {
             number: e.number,
             place: k as u64,
         }),
-        Ok((entry, taken)) => StatementRead::Line {
+        Ok((entry, taken)) => Ok(Some(Line {
             entry,
             taken: k + taken,
-        },
+        })),
     }
 }
 
-pub(crate) fn comment_after(k: usize, r: Option<Comment>) -> StatementRead
+pub(crate) fn comment_after(k: usize, r: Option<Comment>) -> Result<Option<Line>, Refusal>
     requires { CommentFitting k r }
     ensures { said_statement result ≡ comment_after k (said_comment r) }
 {
     match r {
-        None => StatementRead::Refused(Refusal {
+        None => Err(Refusal {
             number: 2,
             place: k as u64,
         }),
-        Some(comment) => StatementRead::Line {
+        Some(comment) => Ok(Some(Line {
             entry: Entry {
                 kind: COMMENT,
                 first: k + comment.first,
@@ -62,6 +61,6 @@ pub(crate) fn comment_after(k: usize, r: Option<Comment>) -> StatementRead
                 bound: 0,
             },
             taken: k + comment.taken,
-        },
+        })),
     }
 }

@@ -8,7 +8,7 @@ ghost use Rattle.statements.specs.Met.{goal_met};
 ghost use Rattle.statements.specs.Walked.{RowWalked, StatementWalked};
 ghost use Rattle.statements.specs.Said.{said_statement};
 
-use crate::row::StatementRead;
+use crate::row::Line;
 use definitions::{Beginning, Entry, Fault, Options, Refusal};
 use sums::SumRead;
 
@@ -57,12 +57,12 @@ pub fn walk_statement(
     options: Options,
     weights: &mut [i64],
     literals: &mut [u32],
-) -> StatementRead
+) -> Result<Option<Line>, Refusal>
     ensures { StatementWalked options s.now weights.old literals.old result weights.new literals.new }
 {
     let k = blanks::blanks_of(s);
     if s.len() <= k {
-        return StatementRead::End;
+        return Ok(None);
     }
     match symbols::begins(symbols::class_of(s[k])) {
         Beginning::Comment => crate::row::comment_after(k, beginnings::read_comment(&s[k..])),
@@ -74,7 +74,7 @@ pub fn walk_statement(
             k,
             constraint(&s[k..], options, weights, literals),
         ),
-        Beginning::Nothing => StatementRead::Refused(Refusal {
+        Beginning::Nothing => Err(Refusal {
             number: 2,
             place: k as u64,
         }),
@@ -82,7 +82,7 @@ pub fn walk_statement(
 }
 
 // The statement alone: no columns are lent.
-pub fn opb_data(s: &[u8], options: Options) -> StatementRead
+pub fn opb_data(s: &[u8], options: Options) -> Result<Option<Line>, Refusal>
     ensures { said_statement result ≡ brief_step (statement options s.now) }
 {
     let mut weights = [0i64; 0];

@@ -8,7 +8,7 @@ ghost use Rattle.definitions.specs.Table.{counted};
 ghost use Rattle.definitions.specs.File.{file};
 
 use definitions::{Options, Refusal, Totals};
-use walker::Stepped;
+use walker::Step;
 
 // "with the same answers": what is counted of the file as it is read at once, or its refusal of 1 to 8.
 pub fn count_steps(s: &[u8], options: Options) -> Result<Totals, Refusal>
@@ -17,19 +17,10 @@ pub fn count_steps(s: &[u8], options: Options) -> Result<Totals, Refusal>
     let mut rows: usize = 0;
     let mut terms: usize = 0;
     let mut at: usize = 0;
-    loop {
-        match walker::step_at(s, options, at) {
-            Stepped::End => {
-                return Ok(Totals { rows, terms });
-            }
-            Stepped::Refused(refusal) => {
-                return Err(refusal);
-            }
-            Stepped::Line { entry, next } => {
-                rows += 1;
-                terms += columns::terms_of(entry.kind, entry.count);
-                at = next;
-            }
-        }
+    while let Some(Step { entry, next }) = walker::step_at(s, options, at)? {
+        rows += 1;
+        terms += columns::terms_of(entry.kind, entry.count);
+        at = next;
     }
+    Ok(Totals { rows, terms })
 }

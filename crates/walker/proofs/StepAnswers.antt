@@ -1,5 +1,6 @@
 -- What a step answers, case by case: a file above the limit, an offset past the end, and what `statement` finds at the
 -- offset.
+use Rattle.std.specs.Prelude.{Option, Some, None, Result, Ok}
 use Prim.Native.Nat.{ℕ, ◌+◌, ◌≤◌, ◌<◌}
 use mathlib.Core.Path.{◌≡◌, refl, sym, ap, ◌∙◌}
 use mathlib.Core.List.{List}
@@ -21,7 +22,8 @@ use Rattle.definitions.proofs.Truths.{never}
 use Rattle.statements.specs.Brief.{entry_at, brief_step}
 use Rattle.statements.proofs.Briefs.{brief-stop, brief-bad, LineTold, line-told, bad-within, entry-in-file}
 use Rattle.statements.proofs.Rows.{statement-first}
-use Rattle.walker.specs.Said.{brief_stepped}
+use Rattle.walker.specs.Said.{said_stepped, brief_stepped}
+use Rattle.walker.specs.declared.steps.Step as code
 
 module _ (o : Options) (s : List ℕ) (at : ℕ) where
   -- 1: "file above the limit", place 0
@@ -99,3 +101,11 @@ brief-offset (stepped l n) at = refl
 -- a line that is told takes the offset forward, within the file
 pub told-forward : (o : Options) (s : List ℕ) (at : ℕ) (b : Entry) (n : ℕ) → stepped b n ≡ brief_stepped (step_at o s at) → Forward o s at n
 told-forward o s at b n e = let i = brief-stepped (step_at o s at) b n e in step-forward o s at i.line n i.is
+
+-- ---- an answer with a line, or with none
+pub line-stepped : (r : Result (Option code.Step) Refusal) (o : Option code.Step) (l : code.Step) → r ≡ Ok o → o ≡ Some l
+    → said_stepped r ≡ stepped l.entry l.next
+line-stepped r o l p q = rw (p, q)
+
+pub end-stepped : (r : Result (Option code.Step) Refusal) (o : Option code.Step) → r ≡ Ok o → o ≡ None → said_stepped r ≡ ended
+end-stepped r o p q = rw (p, q)

@@ -5,4 +5,4 @@
 
 mod steps;
 
-pub use steps::{Stepped, offset_after, step_at};
+pub use steps::{Step, offset_after, step_at};

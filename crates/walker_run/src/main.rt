@@ -11,15 +11,15 @@ ghost use Rattle.walker_run.specs.Stands.{stands_after};
 use definitions::{Entry, Options, Refusal};
 use std::io;
 use std::io::Write;
-use walker::Stepped;
+use walker::Step;
 
 // ---- the functions over a walker
 
 // Two statements in a row, and where the walker then stands.
 #[derive(Clone, Copy)]
 struct Walked {
-    first: Stepped,
-    second: Stepped,
+    first: Result<Option<Step>, Refusal>,
+    second: Result<Option<Step>, Refusal>,
     at: usize,
 }
 
@@ -34,7 +34,7 @@ fn walk_two(file: &[u8], options: Options) -> Walked
 }
 
 // The statement at an offset; the walker is moved there, and stays.
-fn look_ahead(file: &[u8], options: Options, at: usize) -> Stepped
+fn look_ahead(file: &[u8], options: Options, at: usize) -> Result<Option<Step>, Refusal>
     ensures { said_stepped result ≡ brief_stepped (step_at options file.now at) }
 {
     held_steps::step(held::moved(held::new(file, options), at))
@@ -66,11 +66,11 @@ fn show_refusal<W: Write>(output: &mut W, refusal: Refusal) -> io::Result<()> {
     write!(output, "refused {} at {}", refusal.number, refusal.place)
 }
 
-fn show_step<W: Write>(output: &mut W, s: Stepped) -> io::Result<()> {
+fn show_step<W: Write>(output: &mut W, s: Result<Option<Step>, Refusal>) -> io::Result<()> {
     match s {
-        Stepped::End => write!(output, "end")?,
-        Stepped::Refused(refusal) => show_refusal(output, refusal)?,
-        Stepped::Line { entry, next } => show_line(output, entry, next)?,
+        Ok(Some(Step { entry, next })) => show_line(output, entry, next)?,
+        Ok(None) => write!(output, "end")?,
+        Err(refusal) => show_refusal(output, refusal)?,
     }
     write!(output, "\n")
 }

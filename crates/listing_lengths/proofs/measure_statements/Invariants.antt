@@ -6,8 +6,8 @@ use lib.ListN.{length}
 use Rattle.listing_lengths.proofs.FileLengths.{FileSized}
 use Rattle.listing_lengths.proofs.measure_statements.Given as goal
 
-abbrev pub invariant-loop-refusal : goal.invariant-loop-refusal
-invariant-loop-refusal l = FileSized l.options l.s l.at l.rows l.terms l.lines
+abbrev pub invariant-loop-entry : goal.invariant-loop-entry
+invariant-loop-entry l = FileSized l.options l.s l.at l.rows l.terms l.lines
 
-abbrev pub decreases-loop-refusal : goal.decreases-loop-refusal
-decreases-loop-refusal l = length l.s - l.at
+abbrev pub decreases-loop-entry : goal.decreases-loop-entry
+decreases-loop-entry l = length l.s - l.at

@@ -1,26 +1,26 @@
 -- `fill_file` meets its contract: what is filled so far is the invariant (proofs/FillLines.antt), and each statement
 -- adds its line and its terms.
-use Prim.Native.Nat.{ℕ, ◌-◌, ◌≤◌}
-use mathlib.Core.Path.{◌≡◌, sym, ap, ◌∙◌}
+use Prim.Native.Nat.{ℕ, ◌≤◌}
+use mathlib.Core.Path.{◌≡◌, sym}
 use mathlib.Core.List.{List}
 use native.Mathlib.Omega.{arith}
 use borrow.Author.Rules.{rules, sfits_of}
 use mir.Syntax.{w64}
 use mir.Val.{SFits}
 use mir.Facts.{to_z-of_z}
-use borrow.Rule.Slice.PartMut.{same_len_mid}
 use lib.ListN.{length, drop}
 use Rattle.definitions.specs.Table.{Table, table}
 use Rattle.definitions.specs.Walk.{item}
 use Rattle.definitions.proofs.Parts.{part-is}
 use Rattle.definitions.specs.declared.Entry.{Entry}
+use Rattle.statements.proofs.Briefs.{line-said}
 use Rattle.statements.specs.Said.{said_statement}
 use Rattle.statements.specs.Walked.{StatementWalked}
 use Rattle.definitions.proofs.Columns.{rest_of, Lengths}
 use Rattle.reader.proofs.FillLines.{Good, good_of, fills-start, fills-lengths, fills-heavy, fills-known, fills-done}
 use Rattle.reader.proofs.FillLines.{LineMoves, fills-moves, fills-more}
 use Rattle.reader.proofs.fill.fill_file.Goals as goal
-use Rattle.reader.proofs.fill.fill_file.Goals.{After-walk_statement, At-loop-entry, In-Line, Start}
+use Rattle.reader.proofs.fill.fill_file.Goals.{After-walk_statement, At-loop-entry, In-Ok-Some, Start}
 
 -- a turn's beginning
 module _ (c : At-loop-entry) where
@@ -72,18 +72,18 @@ module _ (c : After-walk_statement) where
       ) at c.walk_statement.ensures
 
 -- it was a line
-module _ (c : In-Line) where
+module _ (c : In-Ok-Some) where
   abbrev here : After-walk_statement
-  here = (goal.at.In-Line c).After-walk_statement
+  here = (goal.at.In-Ok-Some c).After-walk_statement
 
   abbrev found : Entry
-  found = c.in-Line.entry
+  found = c.in-Ok-Some.field-0-0.entry
 
   abbrev bytes : ℕ
-  bytes = c.in-Line.taken
+  bytes = c.in-Ok-Some.field-0-0.taken
 
   said : item found bytes ≡ said_statement here.walk_statement.result
-  said = sym (ap said_statement c.in-Line.is)
+  said = sym (line-said _ _ _ c.in-Ok-Some.is c.in-Ok-Some.field-0-is)
 
   moves : LineMoves _ _ _ (good (turn here)) _ _ _ _ (turn here).loop-entry.invariant here.walk_statement.result _ _
       (left here) found bytes said
@@ -124,97 +124,77 @@ slice_bounds-walk_statement-start-in-loop-entry-2 c =
     let p = (goal.at.slice_bounds-walk_statement-start-in-loop-entry-2 c).At-loop-entry in
     omega (arith, (lengths p).literals, known p)
 
-pub shape_of-kinds-in_default : goal.shape_of-kinds-in_default
-shape_of-kinds-in_default c = (lengths (turn (goal.at.shape_of-kinds-in_default c).After-walk_statement)).kinds
-
-pub shape_of-firsts-in_default : goal.shape_of-firsts-in_default
-shape_of-firsts-in_default c = (lengths (turn (goal.at.shape_of-firsts-in_default c).After-walk_statement)).firsts
-
-pub shape_of-counts-in_default : goal.shape_of-counts-in_default
-shape_of-counts-in_default c = (lengths (turn (goal.at.shape_of-counts-in_default c).After-walk_statement)).counts
-
-pub shape_of-bounds-in_default : goal.shape_of-bounds-in_default
-shape_of-bounds-in_default c = (lengths (turn (goal.at.shape_of-bounds-in_default c).After-walk_statement)).bounds
-
-pub shape_of-weights-in_default : goal.shape_of-weights-in_default
-shape_of-weights-in_default c =
-    let p = (goal.at.shape_of-weights-in_default c).After-walk_statement in
-    let l = (turn p).loop-entry in
-    same_len_mid l.term (length l.weights - l.term) l.weights c.walk_statement.new.weights
-    c.walk_statement.auto.weights ∙ (lengths (turn p)).weights
-
-pub shape_of-literals-in_default : goal.shape_of-literals-in_default
-shape_of-literals-in_default c =
-    let p = (goal.at.shape_of-literals-in_default c).After-walk_statement in
-    let l = (turn p).loop-entry in
-    same_len_mid l.term (length l.literals - l.term) l.literals c.walk_statement.new.literals
-    c.walk_statement.auto.literals ∙ (lengths (turn p)).literals
-
 pub returns-in_default : goal.returns-in_default
 returns-in_default c =
     let p = (goal.at.returns-in_default c).After-walk_statement in
     fills-done _ _ _ (good (turn p)) _ _ _ _ (turn p).loop-entry.invariant c.walk_statement.result _ _ (left p)
-    (search rules)
+    (λ x p. (cc))
+
+pub returns-in_default-2 : goal.returns-in_default-2
+returns-in_default-2 c =
+    let p = (goal.at.returns-in_default-2 c).After-walk_statement in
+    fills-done _ _ _ (good (turn p)) _ _ _ _ (turn p).loop-entry.invariant c.walk_statement.result _ _ (left p)
+    (λ x p. (cc))
 
 pub bounds-kinds-row : goal.bounds-kinds-row
 bounds-kinds-row c = let m = moves c in let l = lengths (turn (here c)) in omega arith
 
 pub overflow_add-at : goal.overflow_add-at
 overflow_add-at c =
-    let p = (goal.at.overflow_add-at c).In-Line in
+    let p = (goal.at.overflow_add-at c).In-Ok-Some in
     let m = moves p in omega (arith, (start (turn (here p))).well_formed)
 
 pub offset_bounds-firsts-row : goal.offset_bounds-firsts-row
 offset_bounds-firsts-row c =
-    let p = (goal.at.offset_bounds-firsts-row c).In-Line in
+    let p = (goal.at.offset_bounds-firsts-row c).In-Ok-Some in
     let m = moves p in omega (arith, (start (turn (here p))).well_formed)
 
 pub bounds-firsts-row : goal.bounds-firsts-row
 bounds-firsts-row c =
-    let p = (goal.at.bounds-firsts-row c).In-Line in
+    let p = (goal.at.bounds-firsts-row c).In-Ok-Some in
     let m = moves p in let l = lengths (turn (here p)) in omega arith
 
 pub offset_bounds-counts-row : goal.offset_bounds-counts-row
 offset_bounds-counts-row c =
-    let p = (goal.at.offset_bounds-counts-row c).In-Line in
+    let p = (goal.at.offset_bounds-counts-row c).In-Ok-Some in
     let m = moves p in omega (arith, (start (turn (here p))).well_formed)
 
 pub bounds-counts-row : goal.bounds-counts-row
 bounds-counts-row c =
-    let p = (goal.at.bounds-counts-row c).In-Line in
+    let p = (goal.at.bounds-counts-row c).In-Ok-Some in
     let m = moves p in let l = lengths (turn (here p)) in omega arith
 
 pub offset_bounds-bounds-row : goal.offset_bounds-bounds-row
 offset_bounds-bounds-row c =
-    let p = (goal.at.offset_bounds-bounds-row c).In-Line in
+    let p = (goal.at.offset_bounds-bounds-row c).In-Ok-Some in
     let m = moves p in omega (arith, (start (turn (here p))).well_formed)
 
 pub bounds-bounds-row : goal.bounds-bounds-row
 bounds-bounds-row c =
-    let p = (goal.at.bounds-bounds-row c).In-Line in
+    let p = (goal.at.bounds-bounds-row c).In-Ok-Some in
     let m = moves p in let l = lengths (turn (here p)) in omega arith
 
 pub overflow_add-row : goal.overflow_add-row
 overflow_add-row c =
-    let p = (goal.at.overflow_add-row c).In-Line in
+    let p = (goal.at.overflow_add-row c).In-Ok-Some in
     let m = moves p in omega (arith, (start (turn (here p))).well_formed)
 
 pub overflow_add-term : goal.overflow_add-term
 overflow_add-term c =
-    let p = (goal.at.overflow_add-term c).In-Line in
+    let p = (goal.at.overflow_add-term c).In-Ok-Some in
     let m = moves p in omega (arith, c.terms_of-term.ensures, (start (turn (here p))).well_formed)
 
-pub overflow_add-at-in-loop-entry : goal.overflow_add-at-in-loop-entry
-overflow_add-at-in-loop-entry c =
-    let p = (goal.at.overflow_add-at-in-loop-entry c).In-Line in
+pub overflow_add-at-in-Ok-Some : goal.overflow_add-at-in-Ok-Some
+overflow_add-at-in-Ok-Some c =
+    let p = (goal.at.overflow_add-at-in-Ok-Some c).In-Ok-Some in
     let m = moves p in omega (arith, (start (turn (here p))).well_formed)
 
 pub loop-entry-smaller : goal.loop-entry-smaller
-loop-entry-smaller c = let m = moves (goal.at.loop-entry-smaller c).In-Line in omega arith
+loop-entry-smaller c = let m = moves (goal.at.loop-entry-smaller c).In-Ok-Some in omega arith
 
 pub loop-entry-preserved : goal.loop-entry-preserved
 loop-entry-preserved c =
-    let p = (goal.at.loop-entry-preserved c).In-Line in
+    let p = (goal.at.loop-entry-preserved c).In-Ok-Some in
     let f = here p in
     let q : SFits w64 (found p).bound = sfits_of (search rules) in
     rw (to_z-of_z q, c.first_of.ensures, c.terms_of-term.ensures)
