@@ -41,12 +41,9 @@ pub fn put_row(
     let style = style_of(shape, mode);
     let from = put_head(style.apart, out, at);
     let terms = put_terms(style, weights, literals, out, from);
-    let kind = shape.kind;
-    let bound = shape.bound;
-    let sums = terms.sums;
-    let z = final_bound(kind, bound, sums);
+    let z = final_bound(shape.kind, shape.bound, terms.sums);
     if style.apart {
         return put_ending(z, out, terms.at);
     }
-    put_comparison(kind, z, out, terms.at)
+    put_comparison(shape.kind, z, out, terms.at)
 }

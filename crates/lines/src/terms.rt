@@ -10,7 +10,7 @@ use puts::{put_number, put_text};
 use shown::{Shown, Style, Sums, show_term, with_weight};
 
 // Where the text of a row's terms ends, and their sums.
-#[derive(Clone, Copy)]
+#[derive(Clone, Copy, Debug, PartialEq, Eq)]
 pub(crate) struct Ended {
     pub at: usize,
     pub sums: Sums,
@@ -50,8 +50,7 @@ fn put_term(apart: bool, x: Shown, n: FileNumber, out: &mut [u8], at: usize) -> 
     ensures { LandsEach (term_pieces apart x n.0) at out.old result out.new }
 {
     let from = put_space(apart, out, at);
-    let w = x.weight;
-    let literal = put_number(w, out, from);
+    let literal = put_number(x.weight, out, from);
     let end = put_literal(x.tilde, n, out, literal);
     put_space(!apart, out, end)
 }
@@ -59,8 +58,7 @@ fn put_term(apart: bool, x: Shown, n: FileNumber, out: &mut [u8], at: usize) -> 
 fn put_shown(style: Style, x: Shown, out: &mut [u8], at: usize) -> usize
     ensures { LandsEach (shown_pieces style x) at out.old result out.new }
 {
-    let v = x.var;
-    match FileNumber::of(v, style.first) {
+    match FileNumber::of(x.var, style.first) {
         Some(n) => put_term(style.apart, x, n, out, at),
         None => at,
     }
