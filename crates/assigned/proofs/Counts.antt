@@ -1,6 +1,6 @@
 -- The walk over words that counts their ones, of those that are known.
 use mathlib.Core.Path.{◌≡◌, refl, sym, ap, ap₂, ◌∙◌}
-use mathlib.Core.Bool.{Bool, true, false, ◌&&◌}
+use mathlib.Core.Bool.{Bool, ◌&&◌}
 use mathlib.Core.List.{List, [], ◌∷◌}
 use Prim.Native.Nat.{ℕ, zero, suc, ◌+◌, ◌*◌, ◌/◌, ◌%◌, ◌^◌, ◌≤◌, ◌<◌, min}
 use native.Mathlib.Omega.{arith}
@@ -8,13 +8,14 @@ use borrow.Author.Tests.{lt-ltb}
 use lib.Bits.{bit_and, and_step, and_shr, and_le_l}
 use lib.Count.{ones, ones-le}
 use lib.Dec.{eqb}
-use lib.ListN.{length, get_or, take, length-take}
-use lib.Seq.{get_or-take}
+use lib.ListN.{length, get_or}
+use Rattle.std.specs.Prelude.{Option, Some, None, option_map, take, min}
+use Rattle.definitions.specs.Limits.{word_limit}
 use Rattle.definitions.specs.Meaning.{assigned, true_below, ones_of}
 use Rattle.definitions.specs.Evaluate.{known_ones}
 use Rattle.definitions.proofs.Ones.{true-split, true-alike, ones_summed, ones-counted}
-use Rattle.assigned.specs.WordsSay.{known_word, has_by, ones_by}
-use Rattle.assigned.proofs.Known.{bit_of, has_there}
+use Rattle.assigned.specs.WordsSay.{looked, known_word, has_by, ones_by}
+use Rattle.assigned.proofs.Known.{bit_of, has_there, has-looked, taken-looked}
 
 -- ---- one word
 
@@ -55,55 +56,57 @@ word-bits p x h e = true-alike p (assigned (x ∷ [])) 64 (λ k g. e k g ∙ sym
 -- ---- word by word
 
 -- the variables that are known and true
-abbrev known_true : Bool → List ℕ → List ℕ → ℕ → Bool
-known_true all ws ks v = has_by all ws ks v && assigned ws v
+abbrev known_true : Option (List ℕ) → List ℕ → ℕ → Bool
+known_true known ws v = has_by known ws v && assigned ws v
 
 -- after i words, n ones
-pub record Counted (all : Bool) (ws ks : List ℕ) (i n : ℕ) : Type 0 where
+pub record Counted (known : Option (List ℕ)) (ws : List ℕ) (i n : ℕ) : Type 0 where
   pub few : n ≤ 64 * i
-  pub ones : n ≡ true_below (known_true all ws ks) (64 * i)
+  pub ones : n ≡ true_below (known_true known ws) (64 * i)
 
-module _ (all : Bool) (ws ks : List ℕ) where
-  pub counted_none : Counted all ws ks 0 0
+module _ (known : Option (List ℕ)) (ws : List ℕ) where
+  pub counted_none : Counted known ws 0 0
   unfolding true_below
   counted_none = record { few = omega arith; ones = refl }
 
   -- the bits of word i
   bit_at : (i : ℕ) → i < length ws → (k : ℕ) → k < 64
-      → known_true all ws ks (64 * i + k) ≡ bit_of (bit_and (get_or ws i 0) (known_word all ks i)) k
+      → known_true known ws (64 * i + k) ≡ bit_of (bit_and (get_or ws i 0) (known_word known i)) k
   unfolding assigned
   bit_at i h k g =
       let q : (64 * i + k) / 64 ≡ i = omega arith in
       let r : (64 * i + k) % 64 ≡ k = omega arith in
-      rw (has_there ws ks (64 * i + k) all (omega arith), q, r) (sym (and-bit (get_or ws i 0) (known_word all ks i) k))
+      rw (has_there ws (64 * i + k) known (omega arith), q, r) (sym (and-bit (get_or ws i 0) (known_word known i) k))
 
-  pub counted-more : (i n : ℕ) → Counted all ws ks i n → i < length ws → get_or ws i 0 < 2 ^ 64
-      → Counted all ws ks (i + 1) (n + ones (bit_and (get_or ws i 0) (known_word all ks i)))
+  pub counted-more : (i n : ℕ) → Counted known ws i n → i < length ws → get_or ws i 0 < 2 ^ 64
+      → Counted known ws (i + 1) (n + ones (bit_and (get_or ws i 0) (known_word known i)))
   counted-more i n c h g =
-      let x = bit_and (get_or ws i 0) (known_word all ks i) in
-      let f : x < 2 ^ 64 = omega (arith, and_le_l (get_or ws i 0) (known_word all ks i)) in
+      let x = bit_and (get_or ws i 0) (known_word known i) in
+      let f : x < 2 ^ 64 = omega (arith, and_le_l (get_or ws i 0) (known_word known i)) in
       let e : 64 * (i + 1) ≡ 64 * i + 64 = omega arith in
       record {
         few = omega (arith, c.few, ones-le 64 x f);
         ones =
-            rw e (ap₂ (λ (a b : ℕ). a + b) c.ones (sym (word-bits (λ k. known_true all ws ks (64 * i + k)) x f (bit_at i h)))
-            ∙ sym (true-split (known_true all ws ks) (64 * i) 64));
+            rw e (ap₂ (λ (a b : ℕ). a + b) c.ones (sym (word-bits (λ k. known_true known ws (64 * i + k)) x f (bit_at i h)))
+            ∙ sym (true-split (known_true known ws) (64 * i) 64));
       }
 
-  -- where all are known they are the words' ones
-  ones_is : (all : Bool) → true_below (known_true all ws ks) (64 * length ws) ≡ ones_by all ws ks
-  unfolding ones_of known_ones
-  ones_is true = true-alike (known_true true ws ks) (assigned ws) (64 * length ws) (λ v h. rw (lt-ltb v (64 * length ws) h))
-  ones_is false = refl
+-- where all are known they are the words' ones
+ones_is : (known : Option (List ℕ)) (ws : List ℕ) → true_below (known_true known ws) (64 * length ws) ≡ ones_by known ws
+unfolding ones_of known_ones
+ones_is None ws = true-alike (known_true None ws) (assigned ws) (64 * length ws) (λ v h. rw (lt-ltb v (64 * length ws) h))
+ones_is (Some ks) ws = refl
 
-  pub counted-all : (i n : ℕ) → Counted all ws ks i n → i ≡ length ws → n ≡ ones_by all ws ks
-  counted-all i n c e = c.ones ∙ ap (λ (m : ℕ). true_below (known_true all ws ks) (64 * m)) e ∙ ones_is all
+-- of all the words that are looked at
+counted-looked : (known : Option (List ℕ)) (ws : List ℕ) (i n : ℕ) → Counted known (looked ws) i n → i ≡ length (looked ws)
+    → n ≡ ones_by (option_map looked known) (looked ws)
+counted-looked known ws i n c e =
+    c.ones
+    ∙ ap (λ (m : ℕ). true_below (known_true known (looked ws)) (64 * m)) e
+    ∙ ap (λ (has : ℕ → Bool). true_below (λ v. has v && assigned (looked ws) v) (64 * length (looked ws))) (has-looked known ws)
+    ∙ ones_is (option_map looked known) (looked ws)
 
--- of the first m words of both rows
-pub counted-first : (all : Bool) (m : ℕ) (ws ks : List ℕ) (i n : ℕ) → Counted all (take m ws) (take m ks) i n → i < length ws → i < m
-    → get_or ws i 0 < 2 ^ 64
-    → Counted all (take m ws) (take m ks) (i + 1) (n + ones (bit_and (get_or ws i 0) (known_word all ks i)))
-counted-first all m ws ks i n c h g f =
-    let e = get_or-take m ws i 0 g in
-    rw (e, get_or-take m ks i 0 g)
-    at (counted-more all (take m ws) (take m ks) i n c (omega (arith, length-take m ws)) (omega (arith, e)))
+pub counted-all : (known : Option (List ℕ)) (ws : List ℕ) (m i n : ℕ) → m ≡ min (length ws) word_limit → Counted known (take m ws) i n
+    → i ≡ length (take m ws) → n ≡ ones_by (option_map looked known) (looked ws)
+counted-all known ws m i n h =
+    let e : take m ws ≡ looked ws = rw h (taken-looked ws) in rw e (counted-looked known ws i n)

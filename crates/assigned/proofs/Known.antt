@@ -1,20 +1,24 @@
--- Which variables have a value: those that the words hold and whose bit is known. With `all` every bit is.
-use mathlib.Core.Path.{◌≡◌, refl, sym, ap, ◌∙◌}
-use mathlib.Core.Bool.{Bool, true, false, cond, ◌&&◌, and-true}
+-- Which variables have a value: those that the words hold and whose bit is known.
+use mathlib.Core.Path.{◌≡◌, refl, sym, ap, fun_ext, ◌∙◌}
+use mathlib.Core.Bool.{Bool, true, false}
 use mathlib.Core.List.{List}
-use Prim.Native.Nat.{ℕ, suc, ◌+◌, ◌-◌, ◌*◌, ◌/◌, ◌%◌, ◌^◌, ◌≤◌, ◌<◌}
+use Prim.Native.Nat.{ℕ, suc, ◌+◌, ◌-◌, ◌*◌, ◌/◌, ◌%◌, ◌^◌, ◌≤◌, ◌<◌, min}
 use native.Mathlib.Nat.{pow-suc}
 use native.Mathlib.Omega.{arith}
+use native.Mathlib.Decide.{dec_lt, dec_le}
 use borrow.Author.Tests.{lt-ltb, le-ltb}
 use lib.Dec.{eqb}
-use lib.ListN.{length}
+use lib.ListN.{length, take, length-take}
+use lib.Seq.{take_all, get_or-take}
 use lib.Pow.{pow_pos, high, ones_lt, ones_split}
+use Rattle.std.specs.Prelude.{Option, Some, None, option_map}
+use Rattle.definitions.specs.Limits.{word_limit}
 use Rattle.definitions.specs.Literal.{index_of}
 use Rattle.definitions.specs.Meaning.{assigned, is_known}
 use Rattle.definitions.specs.Evaluate.{within}
 use Rattle.definitions.proofs.Truths.{both}
 use Rattle.term_checks.proofs.Every.{every-less}
-use Rattle.assigned.specs.WordsSay.{known_word, has_by, codes_covered}
+use Rattle.assigned.specs.WordsSay.{looked, known_word, has_by, codes_covered}
 
 -- bit k of a word
 abbrev pub bit_of : ℕ → ℕ → Bool
@@ -33,30 +37,47 @@ full-bit k h =
     let e : suc (63 - k) + k ≡ 64 = omega arith in
     ap (λ (n : ℕ). eqb n 1) (ap (λ (n : ℕ). (2 ^ n - 1) / 2 ^ k % 2) (sym e) ∙ ones_bit (63 - k) k)
 
-known-bit : (all : Bool) (ks : List ℕ) (v : ℕ) → bit_of (known_word all ks (v / 64)) (v % 64) ≡ cond all true (assigned ks v)
-unfolding assigned
-known-bit true ks v = full-bit (v % 64) (omega arith)
-known-bit false ks v = refl
-
-module _ (ws ks : List ℕ) (v : ℕ) where
-  has-is : (all : Bool) → has_by all ws ks v ≡ within ws v && cond all true (assigned ks v)
+module _ (ws : List ℕ) (v : ℕ) where
+  pub has-beyond : (known : Option (List ℕ)) → length ws ≤ v / 64 → has_by known ws v ≡ false
   unfolding is_known
-  has-is true = sym (and-true (within ws v))
-  has-is false = refl
+  has-beyond None h = le-ltb v (64 * length ws) (omega arith)
+  has-beyond (Some ks) h = rw (le-ltb v (64 * length ws) (omega arith))
 
-  module _ (all : Bool) where
-    pub has-beyond : length ws ≤ v / 64 → has_by all ws ks v ≡ false
-    has-beyond h = has-is all ∙ rw (le-ltb v (64 * length ws) (omega arith))
-
-    pub has_there : v / 64 < length ws → has_by all ws ks v ≡ bit_of (known_word all ks (v / 64)) (v % 64)
-    has_there h = has-is all ∙ rw (lt-ltb v (64 * length ws) (omega arith)) (sym (known-bit all ks v))
+  pub has_there : (known : Option (List ℕ)) → v / 64 < length ws → has_by known ws v ≡ bit_of (known_word known (v / 64)) (v % 64)
+  unfolding is_known assigned
+  has_there None h = lt-ltb v (64 * length ws) (omega arith) ∙ sym (full-bit (v % 64) (omega arith))
+  has_there (Some ks) h = rw (lt-ltb v (64 * length ws) (omega arith))
 
   -- whatever has a value is held by the words
-  has_within : (all : Bool) → has_by all ws ks v ≡ true → within ws v ≡ true
+  has_within : (known : Option (List ℕ)) → has_by known ws v ≡ true → within ws v ≡ true
   unfolding is_known
-  has_within true e = e
-  has_within false e = (both (within ws v) (assigned ks v) e).0
+  has_within None e = e
+  has_within (Some ks) e = (both (within ws v) (assigned ks v) e).0
 
-pub covered-within : (all : Bool) (ws ks cs : List ℕ) → codes_covered (has_by all ws ks) cs ≡ true → codes_covered (within ws) cs ≡ true
-covered-within all ws ks cs e =
-    every-less (λ c. has_by all ws ks (index_of c)) (λ c. within ws (index_of c)) (λ c h. has_within ws ks (index_of c) all h) cs e
+pub covered-within : (known : Option (List ℕ)) (ws cs : List ℕ) → codes_covered (has_by known ws) cs ≡ true
+    → codes_covered (within ws) cs ≡ true
+covered-within known ws cs e =
+    every-less (λ c. has_by known ws (index_of c)) (λ c. within ws (index_of c)) (λ c h. has_within ws (index_of c) known h) cs e
+
+-- ---- the words that are looked at
+
+pub taken-looked : (ws : List ℕ) → take (min (length ws) word_limit) ws ≡ looked ws
+unfolding looked
+taken-looked ws = cases (dec_le (length ws) word_limit)
+  where
+    cases : Dec (length ws ≤ word_limit) → take (min (length ws) word_limit) ws ≡ take word_limit ws
+    cases (yes h) = take_all (min (length ws) word_limit) ws (omega arith) ∙ sym (take_all word_limit ws h)
+    cases (no h) = let e : min (length ws) word_limit ≡ word_limit = omega arith in rw e
+
+-- beyond the words that are looked at the known words do not matter
+known-looked : (ws ks : List ℕ) (v : ℕ) → is_known (looked ws) ks v ≡ is_known (looked ws) (looked ks) v
+unfolding is_known assigned looked
+known-looked ws ks v = cases (dec_lt v (64 * length (take word_limit ws)))
+  where
+    cases : Dec (v < 64 * length (take word_limit ws)) → is_known (take word_limit ws) ks v ≡ is_known (take word_limit ws) (take word_limit ks) v
+    cases (yes h) = rw (get_or-take word_limit ks (v / 64) 0 (omega (arith, length-take word_limit ws)))
+    cases (no h) = rw (le-ltb v (64 * length (take word_limit ws)) (omega arith))
+
+pub has-looked : (known : Option (List ℕ)) (ws : List ℕ) → has_by known (looked ws) ≡ has_by (option_map looked known) (looked ws)
+has-looked None ws = refl
+has-looked (Some ks) ws = fun_ext (known-looked ws ks)

@@ -1,6 +1,5 @@
--- What the words ws say of variables, where everything that they hold is known (true) or what the known words ks say
--- (false).
-use Rattle.std.specs.Prelude.{ℕ, ◌^◌, ◌-◌, Bool, true, false, cond, List, get_or, take}
+-- What the words ws say of variables, where everything that they hold is known (None) or what the known words ks say.
+use Rattle.std.specs.Prelude.{ℕ, ◌^◌, ◌-◌, Bool, List, get_or, take, Option, Some, None}
 use Rattle.definitions.specs.Limits.{word_limit}
 use Rattle.definitions.specs.Literal.{index_of}
 use Rattle.definitions.specs.Meaning.{ones_of, is_known}
@@ -12,17 +11,18 @@ unfoldable pub looked : List ℕ → List ℕ
 looked ws = take word_limit ws
 
 -- the bits of word i that are known
-abbrev pub known_word : Bool → List ℕ → ℕ → ℕ
-known_word all ks i = cond all (2 ^ 64 - 1) (get_or ks i 0)
+abbrev pub known_word : Option (List ℕ) → ℕ → ℕ
+known_word None i = 2 ^ 64 - 1
+known_word (Some ks) i = get_or ks i 0
 
 -- the variables that have a value
-abbrev pub has_by : Bool → List ℕ → List ℕ → ℕ → Bool
-has_by true ws ks v = within ws v
-has_by false ws ks v = is_known ws ks v
+abbrev pub has_by : Option (List ℕ) → List ℕ → ℕ → Bool
+has_by None ws v = within ws v
+has_by (Some ks) ws v = is_known ws ks v
 
-abbrev pub ones_by : Bool → List ℕ → List ℕ → ℕ
-ones_by true ws ks = ones_of ws
-ones_by false ws ks = known_ones ws ks
+abbrev pub ones_by : Option (List ℕ) → List ℕ → ℕ
+ones_by None ws = ones_of ws
+ones_by (Some ks) ws = known_ones ws ks
 
 -- not 12: every variable has a value
 abbrev pub codes_covered : (ℕ → Bool) → List ℕ → Bool

@@ -4,6 +4,7 @@ use mathlib.Core.Bool.{Bool, true, false, cond}
 use mathlib.Core.List.{List, [], ◌∷◌}
 use Prim.Native.Nat.{ℕ}
 use lib.Dec.{leb}
+use Rattle.std.specs.Prelude.{Some}
 use lib.ListN.{drop}
 use Rattle.definitions.specs.Limits.{weight_limit, in_i64}
 use Rattle.definitions.specs.Refusal.{Checked, refuse, accept}
@@ -57,7 +58,7 @@ module _ (i : ℕ) (has : ℕ → Bool) (a : Assignment) (ones : ℕ) where
   without-ones t = by_front (drop i (entries t)) t
 
 -- so under both rows of words
-pub judged-is : (t : Table) (i : ℕ) (ws ks : List ℕ) (o : Outcome Evaluated) → o ≡ evaluating_of t i false (looked ws) (looked ks) 0
+pub judged-is : (t : Table) (i : ℕ) (ws ks : List ℕ) (o : Outcome Evaluated) → o ≡ evaluating_of t i (Some (looked ks)) (looked ws) 0
     → o ≡ judging t i ws ks
 unfolding judging evaluating_known looked
 judged-is t i ws ks o e =

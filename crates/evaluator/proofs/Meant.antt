@@ -10,6 +10,7 @@ use native.Mathlib.Omega.{arith}
 use native.Mathlib.Decide.{dec_lt}
 use lib.Dec.{leb}
 use lib.IntN.{ℤ}
+use Rattle.std.specs.Prelude.{Ok}
 use Rattle.definitions.specs.Limits.{weight_limit, in_i64}
 use Rattle.definitions.specs.Refusal.{Checked, refuse, accept}
 use Rattle.definitions.specs.Row.{Row, Line, comment, row, sizes}
@@ -166,14 +167,14 @@ module _ (t : Table) (i : ℕ) (ws ks : List ℕ) where
 
 -- ---- of the code: two answers of each function, with what it was lent
 
-pub evaluate-constraint : (κs : _) (a : _) (sum : ℤ) (h : Bool) (ones : ℕ) (s : _) → evaluate.Post κs a (Constraint sum h ones) s
+pub evaluate-constraint : (κs : _) (a : _) (sum : ℤ) (h : Bool) (ones : ℕ) (s : _) → evaluate.Post κs a (Ok (Constraint sum h ones)) s
     → ConstraintMeant
     (table a.0.now a.1.0.now a.1.1.0.now a.1.1.1.0.now a.1.1.1.1.0.now a.1.1.1.1.1.0.now)
     a.1.1.1.1.1.1.0 (within (looked a.1.1.1.1.1.1.1.0.now)) (assigned (looked a.1.1.1.1.1.1.1.0.now)) sum h
     × (ones ≡ ones_of (looked a.1.1.1.1.1.1.1.0.now))
 evaluate-constraint κs a sum h ones s p = evaluating-constraint _ _ _ sum h ones (sym p)
 
-pub evaluate-objective : (κs : _) (a : _) (value : ℤ) (ones : ℕ) (s : _) → evaluate.Post κs a (Objective value ones) s
+pub evaluate-objective : (κs : _) (a : _) (value : ℤ) (ones : ℕ) (s : _) → evaluate.Post κs a (Ok (Objective value ones)) s
     → ObjectiveMeant
     (table a.0.now a.1.0.now a.1.1.0.now a.1.1.1.0.now a.1.1.1.1.0.now a.1.1.1.1.1.0.now)
     a.1.1.1.1.1.1.0 (within (looked a.1.1.1.1.1.1.1.0.now)) (assigned (looked a.1.1.1.1.1.1.1.0.now)) value
@@ -181,7 +182,7 @@ pub evaluate-objective : (κs : _) (a : _) (value : ℤ) (ones : ℕ) (s : _) �
 evaluate-objective κs a value ones s p = evaluating-objective _ _ _ value ones (sym p)
 
 pub evaluate-known-constraint : (κs : _) (a : _) (sum : ℤ) (h : Bool) (ones : ℕ) (s : _)
-    → evaluate-known.Post κs a (Constraint sum h ones) s
+    → evaluate-known.Post κs a (Ok (Constraint sum h ones)) s
     → ConstraintMeant
     (table a.0.now a.1.0.now a.1.1.0.now a.1.1.1.0.now a.1.1.1.1.0.now a.1.1.1.1.1.0.now)
     a.1.1.1.1.1.1.0 (is_known (looked a.1.1.1.1.1.1.1.0.now) (looked a.1.1.1.1.1.1.1.1.0.now))
@@ -189,7 +190,7 @@ pub evaluate-known-constraint : (κs : _) (a : _) (sum : ℤ) (h : Bool) (ones :
     × (ones ≡ known_ones (looked a.1.1.1.1.1.1.1.0.now) (looked a.1.1.1.1.1.1.1.1.0.now))
 evaluate-known-constraint κs a sum h ones s p = known-constraint _ _ _ _ sum h ones (sym p)
 
-pub evaluate-known-objective : (κs : _) (a : _) (value : ℤ) (ones : ℕ) (s : _) → evaluate-known.Post κs a (Objective value ones) s
+pub evaluate-known-objective : (κs : _) (a : _) (value : ℤ) (ones : ℕ) (s : _) → evaluate-known.Post κs a (Ok (Objective value ones)) s
     → ObjectiveMeant
     (table a.0.now a.1.0.now a.1.1.0.now a.1.1.1.0.now a.1.1.1.1.0.now a.1.1.1.1.1.0.now)
     a.1.1.1.1.1.1.0 (is_known (looked a.1.1.1.1.1.1.1.0.now) (looked a.1.1.1.1.1.1.1.1.0.now))

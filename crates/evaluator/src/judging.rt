@@ -4,6 +4,7 @@ ghost use Rattle.definitions.specs.Table.{table};
 ghost use Rattle.definitions.specs.Evaluate.{judging};
 ghost use Rattle.verdicts.specs.Said.{said_evaluated};
 
+use definitions::Refusal;
 use verdicts::Evaluated;
 
 // A row under values of which some are known, without the ones, which are 0: the time that a row takes is that of its
@@ -18,10 +19,19 @@ pub fn judge(
     row: usize,
     values: &[u64],
     known: &[u64],
-) -> Evaluated
+) -> Result<Evaluated, Refusal>
     ensures { said_evaluated result ≡ judging (table kinds.now firsts.now counts.now bounds.now weights.now literals.now) row values.now known.now }
 {
     rows::evaluate_row(
-        kinds, firsts, counts, bounds, weights, literals, row, values, known, false, 0,
+        kinds,
+        firsts,
+        counts,
+        bounds,
+        weights,
+        literals,
+        row,
+        values,
+        Some(known),
+        0,
     )
 }

@@ -10,6 +10,7 @@ ghost use Rattle.definitions.specs.Table.{table};
 ghost use Rattle.definitions.specs.Evaluate.{evaluating, evaluating_known};
 ghost use Rattle.verdicts.specs.Said.{said_evaluated};
 
+use definitions::Refusal;
 pub use judging::judge;
 use verdicts::Evaluated;
 
@@ -23,12 +24,12 @@ pub fn evaluate(
     literals: &[u32],
     row: usize,
     words: &[u64],
-) -> Evaluated
+) -> Result<Evaluated, Refusal>
     ensures { said_evaluated result ≡ evaluating (table kinds.now firsts.now counts.now bounds.now weights.now literals.now) row words.now }
 {
-    let ones = assigned::ones_of(words, words, true);
+    let ones = assigned::ones_of(words, None);
     rows::evaluate_row(
-        kinds, firsts, counts, bounds, weights, literals, row, words, words, true, ones,
+        kinds, firsts, counts, bounds, weights, literals, row, words, None, ones,
     )
 }
 
@@ -43,11 +44,20 @@ pub fn evaluate_known(
     row: usize,
     values: &[u64],
     known: &[u64],
-) -> Evaluated
+) -> Result<Evaluated, Refusal>
     ensures { said_evaluated result ≡ evaluating_known (table kinds.now firsts.now counts.now bounds.now weights.now literals.now) row values.now known.now }
 {
-    let ones = assigned::ones_of(values, known, false);
+    let ones = assigned::ones_of(values, Some(known));
     rows::evaluate_row(
-        kinds, firsts, counts, bounds, weights, literals, row, values, known, false, ones,
+        kinds,
+        firsts,
+        counts,
+        bounds,
+        weights,
+        literals,
+        row,
+        values,
+        Some(known),
+        ones,
     )
 }

@@ -2,9 +2,10 @@
 ghost use Rattle.std.specs.Prelude.{◌≡◌};
 ghost use Rattle.definitions.specs.Table.{table};
 ghost use Rattle.verdicts.specs.Said.{said_evaluated};
-ghost use Rattle.opb_rows.specs.ByValue.{truth, value_answer};
+ghost use Rattle.opb_rows.specs.ByValue.{value_answer};
 ghost use Rattle.opb_rows.specs.Calls.{evaluate_answer, evaluate_known_answer};
 
+use definitions::Refusal;
 use verdicts::Evaluated;
 
 // A constraint's sum, with `holds` 1 or 0; or an objective's value, with `holds` 2. `ones` is the number of ones in the
@@ -20,33 +21,26 @@ pub struct OpbValue {
     pub ones: u64,
 }
 
-// A bool as C has it.
-fn one_if(holds: bool) -> u8
-    ensures { result ≡ truth holds }
-{
-    if holds { 1 } else { 0 }
-}
-
 // An objective is told from a constraint by `holds`.
-pub(crate) fn value_of(found: Evaluated) -> OpbValue
+pub(crate) fn value_of(found: Result<Evaluated, Refusal>) -> OpbValue
     ensures { result ≡ value_answer (said_evaluated found) }
 {
     match found {
-        Evaluated::Refused(refusal) => OpbValue {
+        Err(refusal) => OpbValue {
             refusal: refusal.number,
             place: refusal.place,
             value: 0,
             holds: 0,
             ones: 0,
         },
-        Evaluated::Constraint { sum, holds, ones } => OpbValue {
+        Ok(Evaluated::Constraint { sum, holds, ones }) => OpbValue {
             refusal: 0,
             place: 0,
             value: sum,
-            holds: one_if(holds),
+            holds: u8::from(holds),
             ones,
         },
-        Evaluated::Objective { value, ones } => OpbValue {
+        Ok(Evaluated::Objective { value, ones }) => OpbValue {
             refusal: 0,
             place: 0,
             value,

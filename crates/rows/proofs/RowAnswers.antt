@@ -8,6 +8,7 @@ use Prim.Native.Nat.{ℕ, ◌≤◌, ◌<◌}
 use native.Mathlib.Omega.{arith}
 use lib.Dec.{leb}
 use lib.IntN.{ℤ}
+use Rattle.std.specs.Prelude.{Option}
 use Rattle.definitions.specs.Limits.{weight_limit}
 use Rattle.definitions.specs.Refusal.{refusal, Checked, refuse, accept}
 use Rattle.definitions.specs.Row.{Row, row_of, Line, row, sizes}
@@ -21,17 +22,9 @@ use Rattle.columns.proofs.KindNumbers.{read-kind, unread-kind, line-by-terms}
 use Rattle.columns.proofs.EntryLaws.{entry_at, entries_from, entries-end}
 use Rattle.assigned.specs.WordsSay.{has_by}
 use Rattle.summed.specs.Sums.{summed_at}
-use Rattle.verdicts.specs.Said.{said_evaluated}
 use Rattle.verdicts.specs.Verdicts.{verdict_of}
-use Rattle.verdicts.specs.declared.Evaluated.{Evaluated}
-use Rattle.verdicts.specs.declared.Evaluated.TheVariants.{Refused}
 use Rattle.verdicts.proofs.VerdictLaws.{found-by-verdict}
 use Rattle.rows.specs.FoundRow.{found_at, evaluating_of}
-
--- a refusal, where the definition has it
-pub refused-is : (number place : ℕ) (r : Evaluated) (c : Checked Found) → r ≡ Refused (refusal number place) → c ≡ refuse number
-    → said_evaluated r ≡ on_place place c
-refused-is number place r c e q = rw (e, q)
 
 -- ---- an entry of a table with these two columns of terms
 
@@ -68,39 +61,39 @@ module _ (has : ℕ → Bool) (a : Assignment) (ones : ℕ) (r : Row) where
   row-found true false = refl
   row-found true true = rw (found-by-verdict a ones r)
 
-module _ (e : Entry) (ws : List ℤ) (cs : List ℕ) (all : Bool) (words known : List ℕ) (ones : ℕ) where
+module _ (e : Entry) (ws : List ℤ) (cs : List ℕ) (known : Option (List ℕ)) (words : List ℕ) (ones : ℕ) where
   abbrev columns : Table
   columns = table [] [] [] [] ws cs
 
   -- a kind that is no read row's
-  pub entry-unread : (e.kind < 1) ⊎ (4 < e.kind) → found_at e ws cs all words known ones ≡ refuse 11
+  pub entry-unread : (e.kind < 1) ⊎ (4 < e.kind) → found_at e ws cs known words ones ≡ refuse 11
   unfolding line_in
   entry-unread (inl h) = rw (sort-low e.kind h)
   entry-unread (inr h) = rw (unread-kind e.kind columns e h)
 
   module _ (h : 1 ≤ e.kind) (g : e.kind ≤ 4) where
-    by-sum : found_at e ws cs all words known ones
-        ≡ and_then (summed_at e.first e.count ws cs all words known)
+    by-sum : found_at e ws cs known words ones
+        ≡ and_then (summed_at e.first e.count ws cs known words)
         (λ (sum : ℤ). verdict_of (read_kind e.kind) sum e.bound ones)
     unfolding line_in
     by-sum =
         let ts = terms_at columns e in
         let r = row_of (read_kind e.kind) e.bound ts in
-        let has = has_by all words known in
+        let has = has_by known words in
         rw (read-kind e.kind (λ q. omega arith) g).sort
         (row-found has (assigned words) ones r (in_column columns e) (indexed ts)
         ∙ row-verdict has (assigned words) ones r (in_column columns e) (indexed ts) (leb (sizes ts) weight_limit) (covered has ts))
 
     -- terms with no sum, and with one
-    pub entry-refused : (number : ℕ) → refuse number ≡ summed_at e.first e.count ws cs all words known
-        → found_at e ws cs all words known ones ≡ refuse number
+    pub entry-refused : (number : ℕ) → refuse number ≡ summed_at e.first e.count ws cs known words
+        → found_at e ws cs known words ones ≡ refuse number
     entry-refused number q = rw (by-sum, ← q)
 
     pub entry-verdict : (sum : ℤ) (place : ℕ) (k : Kind) (o : Outcome Found)
-        → accept sum ≡ summed_at e.first e.count ws cs all words known
+        → accept sum ≡ summed_at e.first e.count ws cs known words
         → k ≡ read_kind e.kind
         → o ≡ on_place place (verdict_of k sum e.bound ones)
-        → o ≡ on_place place (found_at e ws cs all words known ones)
+        → o ≡ on_place place (found_at e ws cs known words ones)
     entry-verdict sum place k o q t p = p ∙ rw (t, by-sum, ← q)
 
 -- ---- a row of the table
@@ -110,10 +103,10 @@ module _ (t : Table) (i : ℕ) where
   unfolding evaluating_by
   row-missing has a ones h = rw (entries-end t i h)
 
-  pub row-there : (all : Bool) (words known : List ℕ) (ones : ℕ) → i < row_room t
-      → on_place i (found_at (entry_at t i) t.weights t.literals all words known ones) ≡ evaluating_of t i all words known ones
+  pub row-there : (known : Option (List ℕ)) (words : List ℕ) (ones : ℕ) → i < row_room t
+      → on_place i (found_at (entry_at t i) t.weights t.literals known words ones) ≡ evaluating_of t i known words ones
   unfolding evaluating_by
-  row-there all words known ones h =
+  row-there known words ones h =
       rw (entries_from t i h)
-      (ap (λ (l : Checked Line). on_place i (and_then l (found_in (has_by all words known) (assigned words) ones)))
+      (ap (λ (l : Checked Line). on_place i (and_then l (found_in (has_by known words) (assigned words) ones)))
       (sym (line-by-terms t (entry_at t i))))

@@ -73,8 +73,10 @@ module _ (a : ℕ → Bool) (ws : List ℤ) (cs : List ℕ) where
         code = get_or cs i 0;
       }))
 
-      pub sum-true : is_true a (get_or cs i 0) ≡ true → sum_to i +ℤ get_or ws i (pos 0) ≡ sum_to (i + 1)
-      sum-true t = sym (more ∙ rw t)
+      -- the term that is read there
+      module _ (w : ℤ) (c : ℕ) (we : w ≡ get_or ws i (pos 0)) (ce : c ≡ get_or cs i 0) where
+        pub sum-true : is_true a c ≡ true → sum_to i +ℤ w ≡ sum_to (i + 1)
+        sum-true t = sym (more ∙ rw (← ce, t, ← we))
 
-      pub sum-false : is_true a (get_or cs i 0) ≡ false → sum_to i ≡ sum_to (i + 1)
-      sum-false t = sym (more ∙ rw t (+ℤ_idr (sum_to i)))
+        pub sum-false : is_true a c ≡ false → sum_to i ≡ sum_to (i + 1)
+        sum-false t = sym (more ∙ rw (← ce, t) (+ℤ_idr (sum_to i)))

@@ -1,9 +1,9 @@
 // The sum of a row's terms under an assignment lent as words (01, "Normalising and evaluating"): "11, 8 for absolute
-// weights, 12", or the sum. What the words assign is asked of crates/assigned, which `words`, `known` and `all` are
-// for. Assumes nothing.
+// weights, 12", or the sum. What the words assign is asked of crates/assigned, which `words` and `known` are for. Assumes
+// nothing.
 #![tactic(auto)]
 
-ghost use Rattle.std.specs.Prelude.{◌≡◌, true, ◌*◌, ◌≤◌, ◌<◌, length};
+ghost use Rattle.std.specs.Prelude.{◌≡◌, true, ◌*◌, ◌≤◌, ◌<◌, length, option_copied, option_map};
 ghost use Rattle.definitions.specs.Limits.{weight_limit};
 ghost use Rattle.definitions.specs.Literal.{index_of};
 ghost use Rattle.definitions.specs.Row.{sizes};
@@ -13,15 +13,8 @@ ghost use Rattle.definitions.specs.Evaluate.{within};
 ghost use Rattle.assigned.specs.WordsSay.{looked, has_by, codes_covered};
 ghost use Rattle.summed.specs.Sums.{said_summed, summed_over, summed_at};
 
-use definitions::{WEIGHT_LIMIT, WORD_LIMIT};
+use definitions::{Fault, WEIGHT_LIMIT, WORD_LIMIT};
 use literals::Lit;
-
-// The sum, or the number of the refusal.
-#[derive(Clone, Copy)]
-pub enum Summed {
-    Refused(u8),
-    Is(i64),
-}
 
 // "Variable v is bit v mod 64 of word v/64."
 fn is_true(literal: Lit, words: &[u64]) -> bool
@@ -43,35 +36,34 @@ fn sum_of(weights: &[i64], literals: &[u32], words: &[u64]) -> i64
     ensures { result ≡ sum_of (assigned words.now) (terms_on weights.now literals.now) }
 {
     let mut sum: i64 = 0;
-    let mut i: usize = 0;
-    while i < weights.len() {
-        if is_true(Lit::of_code(literals[i]), words) {
-            let w = weights[i];
-            sum = sum + w;
+    for (weight, code) in weights.iter().zip(literals) {
+        if is_true(Lit::of_code(*code), words) {
+            sum += *weight;
         }
-        i += 1;
     }
     sum
 }
 
 // Terms that lie in their columns: what is left of 11, then "8 for absolute weights, 12".
-fn sum_terms(weights: &[i64], literals: &[u32], words: &[u64], known: &[u64], all: bool) -> Summed
+fn sum_terms(
+    weights: &[i64],
+    literals: &[u32],
+    words: &[u64],
+    known: Option<&[u64]>,
+) -> Result<i64, Fault>
     requires { length weights.now ≡ length literals.now }
-    ensures { said_summed result ≡ summed_over (has_by all words.now known.now) (assigned words.now) (terms_on weights.now literals.now) }
+    ensures { said_summed result ≡ summed_over (has_by (option_copied known.entry) words.now) (assigned words.now) (terms_on weights.now literals.now) }
 {
-    let indexed = term_checks::indexed_of(literals);
-    let size = term_checks::sizes_of(weights);
-    let covers = assigned::covered(literals, words, known, all);
-    if !indexed {
-        return Summed::Refused(11);
+    if !term_checks::indexed_of(literals) {
+        return Err(Fault { number: 11 });
     }
-    if size > WEIGHT_LIMIT {
-        return Summed::Refused(8);
+    if term_checks::sizes_of(weights) > WEIGHT_LIMIT {
+        return Err(Fault { number: 8 });
     }
-    if !covers {
-        return Summed::Refused(12);
+    if !assigned::covered(literals, words, known) {
+        return Err(Fault { number: 12 });
     }
-    Summed::Is(sum_of(weights, literals, words))
+    Ok(sum_of(weights, literals, words))
 }
 
 // `count` terms from `first` on, under the words that are looked at.
@@ -81,23 +73,15 @@ pub fn sum_row(
     weights: &[i64],
     literals: &[u32],
     words: &[u64],
-    known: &[u64],
-    all: bool,
-) -> Summed
-    ensures { said_summed result ≡ summed_at first count weights.now literals.now all (looked words.now) (looked known.now) }
+    known: Option<&[u64]>,
+) -> Result<i64, Fault>
+    ensures { said_summed result ≡ summed_at first count weights.now literals.now (option_map looked (option_copied known.entry)) (looked words.now) }
 {
     let room = columns::term_room(weights, literals);
     if !columns::in_column(first, count, room) {
-        return Summed::Refused(11);
+        return Err(Fault { number: 11 });
     }
     let end = first + count;
-    let held = columns::lesser(words.len(), WORD_LIMIT);
-    let told = columns::lesser(known.len(), WORD_LIMIT);
-    sum_terms(
-        &weights[first..end],
-        &literals[first..end],
-        &words[..held],
-        &known[..told],
-        all,
-    )
+    let looked = &words[..words.len().min(WORD_LIMIT)];
+    sum_terms(&weights[first..end], &literals[first..end], looked, known)
 }

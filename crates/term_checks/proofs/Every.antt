@@ -1,27 +1,19 @@
--- The walk over codes with a test of each: after i codes that pass, those that are left decide.
+-- A test of each code: the library's test of all, and what follows of one code.
 use mathlib.Core.Path.{◌≡◌, refl}
-use mathlib.Core.Bool.{Bool, true, false}
+use mathlib.Core.Bool.{Bool, true}
 use mathlib.Core.List.{List, [], ◌∷◌}
-use Prim.Native.Nat.{ℕ, zero, suc, ◌+◌, ◌≤◌, ◌<◌}
-use native.Mathlib.Numerals.{add-one}
+use Prim.Native.Nat.{ℕ, zero, suc, ◌<◌}
 use native.Mathlib.Omega.{arith}
-use lib.ListN.{length, get_or, drop, drop_of_length-le}
-use lib.Seq.{drop-cons}
+use lib.ListN.{length, get_or}
+use Rattle.std.specs.List.{list_all}
 use Rattle.definitions.proofs.Truths.{both}
 use Rattle.term_checks.specs.TermTests.{every}
 
 module _ (p : ℕ → Bool) where
-  pub every-end : (cs : List ℕ) (i : ℕ) → length cs ≤ i → every p (drop i cs) ≡ true
+  pub all-every : (cs : List ℕ) → list_all p cs ≡ every p cs
   unfolding every
-  every-end cs i h = rw (drop_of_length-le cs h)
-
-  pub every-fails : (cs : List ℕ) (i : ℕ) → i < length cs → p (get_or cs i 0) ≡ false → every p (drop i cs) ≡ false
-  unfolding every
-  every-fails cs i h e = rw (drop-cons cs i 0 h, every, e)
-
-  pub every-passes : (cs : List ℕ) (i : ℕ) → i < length cs → p (get_or cs i 0) ≡ true → every p (drop i cs) ≡ every p (drop (i + 1) cs)
-  unfolding every
-  every-passes cs i h e = rw (drop-cons cs i 0 h, every, e, add-one)
+  all-every [] = refl
+  all-every (c ∷ cs) = rw (all-every cs)
 
   pub every-at : (cs : List ℕ) (i : ℕ) → every p cs ≡ true → i < length cs → p (get_or cs i 0) ≡ true
   unfolding every

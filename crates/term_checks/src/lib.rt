@@ -15,26 +15,16 @@ pub const SIZE_CAP: u64 = 9_223_372_036_854_775_808;
 pub fn indexed_of(literals: &[u32]) -> bool
     ensures { result ≡ codes_indexed literals.now }
 {
-    let mut i: usize = 0;
-    while i < literals.len() {
-        let v = Lit::of_code(literals[i]).var();
-        if !v.in_limit() {
-            return false;
-        }
-        i += 1;
-    }
-    true
+    literals
+        .iter()
+        .all(|code| Lit::of_code(*code).var().in_limit())
 }
 
-// A size and one weight more. Beyond the cap nothing is added, so no sum leaves 64 bits.
+// A size and one weight more, which stops at the cap.
 pub fn add_size(size: u64, weight: i64) -> u64
     ensures { result ≡ capped (size + nat_abs weight) }
 {
-    if size >= SIZE_CAP {
-        return SIZE_CAP;
-    }
-    let sum = size + numbers::magnitude(weight);
-    if sum < SIZE_CAP { sum } else { SIZE_CAP }
+    size.saturating_add(weight.unsigned_abs()).min(SIZE_CAP)
 }
 
 // The absolute weights together, up to the cap.
@@ -42,10 +32,8 @@ pub fn sizes_of(weights: &[i64]) -> u64
     ensures { result ≡ capped (weight_sizes weights.now) }
 {
     let mut size: u64 = 0;
-    let mut i: usize = 0;
-    while i < weights.len() {
-        size = add_size(size, weights[i]);
-        i += 1;
+    for weight in weights {
+        size = add_size(size, *weight);
     }
     size
 }

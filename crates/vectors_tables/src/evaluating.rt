@@ -1,20 +1,21 @@
 // A row of a table, evaluated. Assumes nothing.
+use definitions::Refusal;
 use std::io;
 use std::io::Write;
 use vectors_columns::WORDS;
 use vectors_shown::{say, say_count, say_integer, say_refusal, say_whether};
 use verdicts::Evaluated;
 
-fn show_evaluated<W: Write>(output: &mut W, answer: Evaluated) -> io::Result<()> {
+fn show_evaluated<W: Write>(output: &mut W, answer: Result<Evaluated, Refusal>) -> io::Result<()> {
     match answer {
-        Evaluated::Refused(why) => say_refusal(output, why.number, why.place),
-        Evaluated::Constraint { sum, holds, ones } => {
+        Err(why) => say_refusal(output, why.number, why.place),
+        Ok(Evaluated::Constraint { sum, holds, ones }) => {
             say(output, b" sum")?;
             say_integer(output, sum)?;
             say_whether(output, holds)?;
             say_count(output, ones)
         }
-        Evaluated::Objective { value, ones } => {
+        Ok(Evaluated::Objective { value, ones }) => {
             say(output, b" value")?;
             say_integer(output, value)?;
             say_count(output, ones)
