@@ -99,7 +99,9 @@ pub bounds-out-end : goal.bounds-out-end
 bounds-out-end c = omega (arith, rest₄ (goal.at.bounds-out-end c).After-put_field-end)
 
 pub overflow_add-result : goal.overflow_add-result
-overflow_add-result c = omega (arith, rest₄ (goal.at.overflow_add-result c).After-put_field-end, all-long (goal.at.overflow_add-result c).After-put_field-end, (start (word (rows (terms (goal.at.overflow_add-result c).After-put_field-end)))).well_formed)
+overflow_add-result c =
+    let d = (goal.at.overflow_add-result c).After-put_field-end in
+    omega (arith, rest₄ d, all-long d, (start (word (rows (terms d)))).well_formed)
 
 pub shape_of-out : goal.shape_of-out
 shape_of-out c = simp length-set (all-long (goal.at.shape_of-out c).After-put_field-end)

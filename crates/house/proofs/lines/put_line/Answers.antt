@@ -83,20 +83,28 @@ module _ (c : After-put_terms-end) where
   all-long = rw length-set at (puts-length all-put (room s))
 
 pub put_word-a-requires : goal.put_word-a-requires
-put_word-a-requires c = front-room (word (goal.at.put_word-a-requires c).Start) (bound (goal.at.put_word-a-requires c).Start ++ (terms (goal.at.put_word-a-requires c).Start ++ (lf ∷ []))) _ (room (goal.at.put_word-a-requires c).Start)
+put_word-a-requires c =
+    let d = (goal.at.put_word-a-requires c).Start in
+    front-room (word d) (bound d ++ (terms d ++ (lf ∷ []))) _ (room d)
 
 pub put_terms-end-requires : goal.put_terms-end-requires
-put_terms-end-requires c = let s = start (word-put (goal.at.put_terms-end-requires c).After-put_number-b) in record
-    { long = s.requires.long; numbers = s.requires.numbers; room = front-room (terms s) (lf ∷ []) _ (rest₂ (goal.at.put_terms-end-requires c).After-put_number-b) }
+put_terms-end-requires c =
+    let d = (goal.at.put_terms-end-requires c).After-put_number-b in
+    let s = start (word-put d) in record
+    { long = s.requires.long; numbers = s.requires.numbers; room = front-room (terms s) (lf ∷ []) _ (rest₂ d) }
 
 pub bounds-out-end : goal.bounds-out-end
 bounds-out-end c = omega (arith, rest₃ (goal.at.bounds-out-end c).After-put_terms-end)
 
 pub overflow_add-result : goal.overflow_add-result
-overflow_add-result c = omega (arith, rest₃ (goal.at.overflow_add-result c).After-put_terms-end, all-long (goal.at.overflow_add-result c).After-put_terms-end, (s (goal.at.overflow_add-result c).After-put_terms-end).well_formed)
+overflow_add-result c =
+    let d = (goal.at.overflow_add-result c).After-put_terms-end in
+    omega (arith, rest₃ d, all-long d, (s d).well_formed)
 
 pub shape_of-out : goal.shape_of-out
 shape_of-out c = simp length-set (all-long (goal.at.shape_of-out c).After-put_terms-end)
 
 pub returns : goal.returns
-returns c = puts-as (all-put (goal.at.returns c).After-put_terms-end) (sym (words (s (goal.at.returns c).After-put_terms-end)))
+returns c =
+    let d = (goal.at.returns c).After-put_terms-end in
+    puts-as (all-put d) (sym (words (s d)))

@@ -51,21 +51,24 @@ pub slice_bounds-put_line-end : goal.slice_bounds-put_line-end
 slice_bounds-put_line-end c = omega (arith, within c)
 
 pub offset_bounds-literals-start : goal.offset_bounds-literals-start
-offset_bounds-literals-start c = omega (arith, within (goal.at.offset_bounds-literals-start c).Else-kind-eq-COMMENT, (start (goal.at.offset_bounds-literals-start c).Else-kind-eq-COMMENT).well_formed)
+offset_bounds-literals-start c =
+    let d = (goal.at.offset_bounds-literals-start c).Else-kind-eq-COMMENT in
+    omega (arith, within d, (start d).well_formed)
 
 pub slice_bounds-put_line-end-2 : goal.slice_bounds-put_line-end-2
 slice_bounds-put_line-end-2 c = omega (arith, within (goal.at.slice_bounds-put_line-end-2 c).Else-kind-eq-COMMENT)
 
 pub put_line-requires : goal.put_line-requires
 put_line-requires c =
-    let s = start (goal.at.put_line-requires c).Else-kind-eq-COMMENT in
+    let d = (goal.at.put_line-requires c).Else-kind-eq-COMMENT in
+    let s = start d in
     let n : s.args.start + s.args.count - s.args.start ≡ s.args.count = omega arith in
     rw (to_z-of_z s.ranges.bound, n)
     (record {
-      long = (read (goal.at.put_line-requires c).Else-kind-eq-COMMENT).long;
-      numbers = (read (goal.at.put_line-requires c).Else-kind-eq-COMMENT).numbers;
+      long = (read d).long;
+      numbers = (read d).numbers;
       room = omega
-          (arith, s.requires.room, ap (λ (l : Line). length (house_line s.args.first l)) (read (goal.at.put_line-requires c).Else-kind-eq-COMMENT).is);
+          (arith, s.requires.room, ap (λ (l : Line). length (house_line s.args.first l)) (read d).is);
     })
 
 pub returns : goal.returns

@@ -37,11 +37,14 @@ pub bounds-out-at : goal.bounds-out-at
 bounds-out-at c = omega (arith, room (goal.at.bounds-out-at c).Start)
 
 pub put_literal-requires : goal.put_literal-requires
-put_literal-requires c = omega (arith, room (start (goal.at.put_literal-requires c).After-put_number-end), (weight-put (goal.at.put_literal-requires c).After-put_number-end).place, weight-long (goal.at.put_literal-requires c).After-put_number-end)
+put_literal-requires c =
+    let d = (goal.at.put_literal-requires c).After-put_number-end in
+    omega (arith, room (start d), (weight-put d).place, weight-long d)
 
 pub shape_of-out : goal.shape_of-out
 shape_of-out c = c.put_literal.auto.out ∙ weight-long (goal.at.shape_of-out c).After-put_number-end
 
 pub returns : goal.returns
 returns c =
-    puts_then (weight-put (goal.at.returns c).After-put_number-end) (omega (arith, room (start (goal.at.returns c).After-put_number-end))) c.put_literal.ensures
+    let d = (goal.at.returns c).After-put_number-end in
+    puts_then (weight-put d) (omega (arith, room (start d))) c.put_literal.ensures

@@ -36,8 +36,9 @@ shape_of-out-then-tilde c = c.put_count.auto.out ∙ simp length-set
 
 pub returns-then-tilde : goal.returns-then-tilde
 returns-then-tilde c =
-    let s = then-start (goal.at.returns-then-tilde c).Then-tilde in
-    let h = tilde-room (goal.at.returns-then-tilde c).Then-tilde in
+    let d = (goal.at.returns-then-tilde c).Then-tilde in
+    let s = then-start d in
+    let h = tilde-room d in
     rw c.if-tilde.true
     (byte-then 9 s.args.at (s.args.at + 1) s.args.out.now (omega (arith, h)) refl
     (byte-then 126 (s.args.at + 1) (s.args.at + 2) _ (simp length-set (omega (arith, h))) (omega arith)
@@ -52,8 +53,9 @@ shape_of-out c = c.put_count-2.auto.out ∙ simp length-set
 
 pub returns : goal.returns
 returns c =
-    let s = else-start (goal.at.returns c).Else-tilde in
-    let h = plain-room (goal.at.returns c).Else-tilde in
+    let d = (goal.at.returns c).Else-tilde in
+    let s = else-start d in
+    let h = plain-room d in
     rw c.if-tilde.false
     (byte-then 9 s.args.at (s.args.at + 1) s.args.out.now (omega (arith, h)) refl
     (byte-then 120 (s.args.at + 1) (s.args.at + 2) _ (simp length-set (omega (arith, h))) (omega arith)

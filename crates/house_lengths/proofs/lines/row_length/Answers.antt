@@ -38,5 +38,7 @@ pub overflow_add-more-2 : goal.overflow_add-more-2
 overflow_add-more-2 c = omega (arith, bound-length c, word-length c)
 
 pub returns : goal.returns
-returns c = c.add_needed.ensures ∙ ap (λ (n : ℕ). needed (c.args.terms + n))
-    (omega (arith, bound-length (goal.at.returns c).After-number_length, word-length (goal.at.returns c).After-number_length, length-append (kind_word (read_kind c.args.kind)) (tab ∷ [])))
+returns c =
+    let d = (goal.at.returns c).After-number_length in
+    c.add_needed.ensures ∙ ap (λ (n : ℕ). needed (c.args.terms + n))
+    (omega (arith, bound-length d, word-length d, length-append (kind_word (read_kind c.args.kind)) (tab ∷ [])))

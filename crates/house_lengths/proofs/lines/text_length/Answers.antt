@@ -34,16 +34,19 @@ pub overflow_add-head : goal.overflow_add-head
 overflow_add-head c = omega (arith, rows-length c, terms-length c)
 
 pub overflow_add-head-2 : goal.overflow_add-head-2
-overflow_add-head-2 c = omega (arith, rows-length (goal.at.overflow_add-head-2 c).After-count_length-2, terms-length (goal.at.overflow_add-head-2 c).After-count_length-2, first-length c)
+overflow_add-head-2 c =
+    let d = (goal.at.overflow_add-head-2 c).After-count_length-2 in
+    omega (arith, rows-length d, terms-length d, first-length c)
 
 pub returns : goal.returns
 returns c =
+    let d = (goal.at.returns c).After-count_length-2 in
     c.add_needed.ensures
     ∙ ap (λ (n : ℕ). needed (c.args.lines + n))
     (omega (
       arith,
-      rows-length (goal.at.returns c).After-count_length-2,
-      terms-length (goal.at.returns c).After-count_length-2,
+      rows-length d,
+      terms-length d,
       first-length (goal.at.returns c).After-count_length-3,
       head-length c.args.rows
           c.args.terms c.args.first,

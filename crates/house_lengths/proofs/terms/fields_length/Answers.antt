@@ -32,29 +32,35 @@ pub overflow_add-digits : goal.overflow_add-digits
 overflow_add-digits c = omega (arith, weight-length c, number-length c)
 
 pub overflow_add-result : goal.overflow_add-result
-overflow_add-result c = omega (arith, weight-length (goal.at.overflow_add-result c).After-count_length, number-length (goal.at.overflow_add-result c).After-count_length)
+overflow_add-result c =
+    let d = (goal.at.overflow_add-result c).After-count_length in
+    omega (arith, weight-length d, number-length d)
 
 pub overflow_add-result-else-tilde : goal.overflow_add-result-else-tilde
-overflow_add-result-else-tilde c = omega (arith, weight-length (goal.at.overflow_add-result-else-tilde c).After-count_length, number-length (goal.at.overflow_add-result-else-tilde c).After-count_length)
+overflow_add-result-else-tilde c =
+    let d = (goal.at.overflow_add-result-else-tilde c).After-count_length in
+    omega (arith, weight-length d, number-length d)
 
 pub returns-then-tilde : goal.returns-then-tilde
 returns-then-tilde c =
-    let s = start (goal.at.returns-then-tilde c).After-count_length in
+    let d = (goal.at.returns-then-tilde c).After-count_length in
+    let s = start d in
     omega (
       arith,
-      weight-length (goal.at.returns-then-tilde c).After-count_length,
-      number-length (goal.at.returns-then-tilde c).After-count_length,
+      weight-length d,
+      number-length d,
       tilde-words-length s.args.w s.args.tilde
           s.args.n.0 c.if-tilde.true,
     )
 
 pub returns-else-tilde : goal.returns-else-tilde
 returns-else-tilde c =
-    let s = start (goal.at.returns-else-tilde c).After-count_length in
+    let d = (goal.at.returns-else-tilde c).After-count_length in
+    let s = start d in
     omega (
       arith,
-      weight-length (goal.at.returns-else-tilde c).After-count_length,
-      number-length (goal.at.returns-else-tilde c).After-count_length,
+      weight-length d,
+      number-length d,
       plain-words-length s.args.w s.args.tilde
           s.args.n.0 c.if-tilde.false,
     )

@@ -58,16 +58,19 @@ pub slice_bounds-measure_line-end : goal.slice_bounds-measure_line-end
 slice_bounds-measure_line-end c = omega (arith, within c)
 
 pub offset_bounds-literals-start : goal.offset_bounds-literals-start
-offset_bounds-literals-start c = omega (arith, within (goal.at.offset_bounds-literals-start c).Else-not-in_column, (start (goal.at.offset_bounds-literals-start c).Else-not-in_column).well_formed)
+offset_bounds-literals-start c =
+    let d = (goal.at.offset_bounds-literals-start c).Else-not-in_column in
+    omega (arith, within d, (start d).well_formed)
 
 pub slice_bounds-measure_line-end-2 : goal.slice_bounds-measure_line-end-2
 slice_bounds-measure_line-end-2 c = omega (arith, within (goal.at.slice_bounds-measure_line-end-2 c).Else-not-in_column)
 
 pub returns : goal.returns
 returns c =
-    let s = start (goal.at.returns c).Else-not-in_column in
+    let d = (goal.at.returns c).Else-not-in_column in
+    let s = start d in
     let n : s.args.start + s.args.count - s.args.start ≡ s.args.count = omega arith in
     c.measure_line.ensures
     ∙ rw (to_z-of_z s.ranges.bound, n)
     (ap (size_in _) (sym (inside-entry _ _ _ (entry s) c.if-kind-eq-COMMENT.false
-    c.if-kind-gt-OBJECTIVE.false (inside (goal.at.returns c).Else-not-in_column))))
+    c.if-kind-gt-OBJECTIVE.false (inside d))))
