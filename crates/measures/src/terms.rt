@@ -20,8 +20,7 @@ pub(crate) struct Tally {
 fn term_length(t: Shown, n: FileNumber) -> usize
     ensures { result ≡ length (term_words t n.0) + 1 }
 {
-    let w = t.weight;
-    let digits = lengths::number_length(w) + lengths::count_length(n.number() as u64);
+    let digits = lengths::number_length(t.weight) + lengths::count_length(n.number() as u64);
     if t.tilde { digits + 4 } else { digits + 3 }
 }
 
@@ -34,19 +33,17 @@ fn is_lawful(x: Shown) -> bool
 fn tally_shown(t: Tally, style: Style, x: Shown) -> Tally
     ensures { result ≡ tally_shown style t x }
 {
-    let old = t.sums;
-    let sums = with_weight(old, x.own, x.falls);
-    let v = x.var;
-    match FileNumber::of(v, style.first) {
+    let sums = with_weight(t.sums, x.own, x.falls);
+    match FileNumber::of(x.var, style.first) {
         Some(n) => Tally {
             sums,
-            numbered: t.numbered,
             length: add_needed(t.length, term_length(x, n) as u64),
+            ..t
         },
         None => Tally {
             sums,
             numbered: false,
-            length: t.length,
+            ..t
         },
     }
 }

@@ -31,14 +31,11 @@ pub(crate) fn is_objective(kind: Kind) -> bool
 pub fn style_of(shape: Shape, mode: Mode) -> Style
     ensures { result ≡ style_of shape mode }
 {
-    let kind = shape.kind;
-    let flip = is_at_most(kind);
-    let apart = is_objective(kind);
     Style {
         unit: shape.unit,
-        flip,
+        flip: is_at_most(shape.kind),
         plain: mode.plain,
-        apart,
+        apart: is_objective(shape.kind),
         first: mode.first,
     }
 }

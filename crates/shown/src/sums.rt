@@ -14,12 +14,10 @@ pub fn with_weight(s: Sums, w: i64, falls: bool) -> Sums
     ensures { result ≡ sums_with s w falls }
 {
     let total = term_checks::add_size(s.total, w);
-    if falls {
-        let fall = term_checks::add_size(s.fall, w);
-        return Sums { total, fall };
-    }
-    Sums {
-        total,
-        fall: s.fall,
-    }
+    let fall = if falls {
+        term_checks::add_size(s.fall, w)
+    } else {
+        s.fall
+    };
+    Sums { total, fall }
 }

@@ -1,22 +1,16 @@
 -- `measure_opb_lines` meets its contract: each turn counts one row (`Counting`, proofs/Counting.antt).
 use native.Mathlib.Omega.{arith}
 use mathlib.Core.Path.{◌≡◌, ap}
-use Prim.Native.Nat.{ℕ}
-use mathlib.Core.Path.{refl}
 use borrow.Author.Rules.{rules}
 use lib.IntN.{pos}
 use lib.ListN.{get_or}
 use mir.Syntax.{w64}
 use mir.Val.{SFits}
 use mir.Facts.{to_z-of_z}
-use Rattle.std.specs.Prelude.{Result, Ok, Err, MatchResult}
 use Rattle.std.proofs.lemmas.Result.{err_from_is_err_and}
 use Rattle.definitions.specs.Refusal.{refusal}
 use Rattle.definitions.specs.Table.{table}
-use Rattle.definitions.specs.declared.Fault.{Fault}
 use Rattle.definitions.specs.declared.Refusal.{Refusal}
-use Rattle.definitions.proofs.Truths.{never}
-use Rattle.measures.specs.declared.rows.Extent.{Extent}
 use Rattle.measures.specs.Rows.{said_measured}
 use Rattle.measures.proofs.Counting.{counting-none, counting-refused, counting_more, counting-all}
 use Rattle.measures.proofs.Handed.{handed-err, handed-ok}

@@ -1,5 +1,4 @@
 -- `part_length` meets its contract: 11 of terms outside their columns, else what the row says.
-use native.Mathlib.Omega.{arith}
 use mathlib.Core.Path.{◌≡◌, sym, ap, ◌∙◌}
 use Prim.Native.Nat.{◌+◌, ◌≤◌, min}
 use borrow.Author.Tests.{leb-true}
@@ -24,25 +23,6 @@ pub returns-then-not-in_column : goal.returns-then-not-in_column
 returns-then-not-in_column c =
     part-outside c.args.shape c.args.first c.args.count c.args.weights.now c.args.literals.now c.args.mode
     (sym (asked (goal.at.returns-then-not-in_column c).After-in_column) ∙ c.if-not-in_column.true)
-
-pub overflow_add-end : goal.overflow_add-end
-overflow_add-end c = omega (arith, within c, c.well_formed)
-
-pub offset_bounds-weights-first : goal.offset_bounds-weights-first
-offset_bounds-weights-first c = omega (arith, within c, c.well_formed)
-
-pub slice_bounds-row_length-end : goal.slice_bounds-row_length-end
-slice_bounds-row_length-end c =
-    let h : c.args.first + c.args.count ≤ length c.args.weights.now = omega (arith, within c) in
-    h
-
-pub offset_bounds-literals-first : goal.offset_bounds-literals-first
-offset_bounds-literals-first c = omega (arith, within (goal.at.offset_bounds-literals-first c).Else-not-in_column, c.well_formed)
-
-pub slice_bounds-row_length-end-2 : goal.slice_bounds-row_length-end-2
-slice_bounds-row_length-end-2 c =
-    let h : c.args.first + c.args.count ≤ length c.args.literals.now = omega (arith, within (goal.at.slice_bounds-row_length-end-2 c).Else-not-in_column) in
-    h
 
 pub returns : goal.returns
 returns c =

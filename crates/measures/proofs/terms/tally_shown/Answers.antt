@@ -1,4 +1,5 @@
 -- `tally_shown` meets its contract: the sums grow, and where the variable has a file number so does the length.
+use borrow.Author.Rules.{rules}
 use mathlib.Core.Path.{◌≡◌, ap, ◌∙◌}
 use Prim.Native.Nat.{ℕ, ◌+◌}
 use mir.Syntax.{w64}
@@ -17,7 +18,7 @@ module _ (c : After-of) where
 
   weighed : c.with_weight-sums.result ≡ sums_with start.args.t.sums start.args.x.own start.args.x.falls
   weighed =
-      let f : SFits w64 start.args.x.own = record { sfits = c.struct_told-1.given.0.1 } in
+      let f : SFits w64 start.args.x.own = search rules in
       c.with_weight-sums.ensures ∙ rw (to_z-of_z f)
 
 pub returns-in-Some : goal.returns-in-Some

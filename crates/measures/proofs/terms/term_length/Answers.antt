@@ -1,6 +1,7 @@
 -- `term_length` meets its contract: the digits of weight and file number, a sign, the two spaces, `x`, and `~` where it
 -- stands.
 use native.Mathlib.Omega.{arith}
+use borrow.Author.Rules.{rules}
 use mathlib.Core.Path.{◌≡◌, ap, ◌∙◌}
 use Prim.Native.Nat.{ℕ, ◌≤◌, ◌^◌}
 use lib.ListN.{length}
@@ -21,7 +22,7 @@ module _ (c : After-count_length) where
   shown = c.args.t
 
   weight-fits : SFits w64 shown.weight
-  weight-fits = record { sfits = c.struct_told-1.given.1.0.1 }
+  weight-fits = search rules
 
   sized : c.number_length.result ≡ length (integer_text shown.weight)
   sized = c.number_length.ensures ∙ ap (λ (z : ℤ). length (integer_text z)) (to_z-of_z weight-fits)
