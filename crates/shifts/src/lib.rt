@@ -13,19 +13,12 @@ fn rise_of(weights: &[i64]) -> u64
     ensures { result ≡ min (weight_rises weights.now) weight_limit }
 {
     let mut rise: u64 = 0;
-    let mut i: usize = 0;
-    while i < weights.len() {
-        let weight = weights[i];
-        if weight < 0 {
-            rise = term_checks::add_size(rise, weight);
+    for weight in weights {
+        if *weight < 0 {
+            rise = term_checks::add_size(rise, *weight);
         }
-        i += 1;
     }
-    if rise < WEIGHT_LIMIT {
-        rise
-    } else {
-        WEIGHT_LIMIT
-    }
+    rise.min(WEIGHT_LIMIT)
 }
 
 // What is added to the bound.
@@ -33,11 +26,8 @@ pub fn shift_of(kind: Kind, weights: &[i64]) -> i64
     ensures { result ≡ shift_of kind weights.now }
 {
     let rise = rise_of(weights) as i64;
-    let fall = -rise;
     match kind {
-        Kind::AtLeast => rise,
-        Kind::AtMost => rise,
-        Kind::Equal => rise,
-        Kind::Objective => fall,
+        Kind::AtLeast | Kind::AtMost | Kind::Equal => rise,
+        Kind::Objective => -rise,
     }
 }
