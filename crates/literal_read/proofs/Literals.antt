@@ -1,29 +1,31 @@
 -- Laws for the code of literals: what `digits`, `variable` and `literal` are in each case that the code tells apart,
 -- and how many bytes they take.
-use Prim.Native.Nat.{ℕ, ◌+◌, ◌-◌, ◌≤◌, min}
+use Prim.Native.Nat.{ℕ, ◌+◌, ◌≤◌, min}
 use mathlib.Core.Path.{◌≡◌, refl, sym, ap, ◌∙◌}
-use mathlib.Core.Logic.{◌⊎◌, inl, inr}
-use mathlib.Core.Bool.{Bool, true, false, cond, ◌&&◌}
+use mathlib.Core.Bool.{Bool, true, false}
 use mathlib.Core.List.{List, [], ◌∷◌}
 use native.Mathlib.Omega.{arith}
 use native.Mathlib.Decide.{dec_le}
-use borrow.Author.Tests.{eq-eqb, ne_eqb}
-use lib.Dec.{leb}
+use borrow.Author.Tests.{eq-eqb, ne_eqb, eqb-true, eqb-false}
+use lib.Dec.{eqb}
 use lib.ListN.{length, get_or, drop}
-use Rattle.definitions.specs.Limits.{file_number_limit, index_limit}
 use Rattle.definitions.specs.Refusal.{Checked, refuse, accept, fault}
 use Rattle.definitions.specs.Bytes.{letter_x, tilde, minus}
 use Rattle.definitions.specs.Reader.{Got, none, got, more}
 use Rattle.definitions.specs.Number.{leading, value}
-use Rattle.definitions.specs.Literal.{index, code_of, code_for}
+use Rattle.definitions.specs.Literal.{index}
 use Rattle.definitions.specs.Text.{code_by, digits, variable, literal}
 use Rattle.definitions.specs.declared.Options.{Options}
 use Rattle.definitions.proofs.Statements.{within-literal}
 use Rattle.numbers.specs.Read.{cap, run_of}
 use Rattle.numbers.specs.declared.Run.{Run}
-use Rattle.literals.proofs.Conversions.{index-beyond, index-above-limit, literal-within}
+use Rattle.std.specs.Prelude.{Option}
+use Rattle.literals.specs.Said.{said_lit}
+use Rattle.literals.specs.FileDigits.{then_code}
+use Rattle.literals.specs.declared.Lit.{Lit}
+use Rattle.literals.proofs.Conversions.{index-beyond}
 
--- ---- an index that is accepted
+-- ---- an index of capped digits
 
 -- a size that stopped at the cap is beyond a file number, and so is the value of its digits
 capped-index : (first v : ℕ) → index first (min v cap) ≡ index first v
@@ -32,22 +34,6 @@ capped-index first v = cases (dec_le v cap)
     cases : Dec (v ≤ cap) → index first (min v cap) ≡ index first v
     cases (yes h) = ap (index first) (omega arith)
     cases (no h) = sym (index-beyond first (min v cap) (omega arith)) ∙ index-beyond first v (omega arith)
-
-accepted : (t : Bool) (v m : ℕ) → accept v ≡ cond t (accept m) (refuse 5) → v ≡ m
-accepted true v m e = cc
-accepted false v m e = let z : ◌≡◌ {A = ℕ} 0 1 = cc in absurd (omega arith)
-
--- it is within the limit, so it has a code
-index-coded : (negative : Bool) (first n v : ℕ) → accept v ≡ index first n → code_for negative v ≡ accept (code_of negative v)
-unfolding index
-index-coded negative first n v e =
-    cases (accepted (leb n file_number_limit && (leb first n && leb (n - first) index_limit)) v (n - first) e) (dec_le v index_limit)
-  where
-    cases : v ≡ n - first → Dec (v ≤ index_limit) → code_for negative v ≡ accept (code_of negative v)
-    cases is (yes h) = sym (literal-within negative v h)
-    cases is (no h) =
-        let f : accept v ≡ refuse 5 = e ∙ sym (index-above-limit first n (omega arith)) in
-        let z : ◌≡◌ {A = ℕ} 0 1 = cc in absurd (omega arith)
 
 -- ---- the digits of a file number
 
@@ -65,17 +51,20 @@ module _ (o : Options) (negative : Bool) (s : List ℕ) (run : Run) (is : run �
   digits-missing z = rw (counted, z)
 
   module _ (some : run.count ≡ 0 → ⊥) where
-    pub digits-indexed : (g : Checked ℕ) → g ≡ index o.first run.size → code_by negative run.count g ≡ digits o negative s
+    digits-indexed : (g : Checked ℕ) → g ≡ index o.first run.size → code_by negative run.count g ≡ digits o negative s
     unfolding digits
     digits-indexed g e =
         let f : index o.first (value (leading s)) ≡ g =
         sym (e ∙ ap (λ (r : Run). index o.first r.size) is ∙ capped-index o.first (value (leading s))) in
         rw (counted, ne_eqb run.count 0 some, f)
 
-    pub digits-coded : (v : ℕ) → accept v ≡ index o.first run.size → (g : Checked ℕ) → g ≡ code_for negative v
-        → literal_of run.count g ≡ digits o negative s
-    digits-coded v e g f =
-        ap (literal_of run.count) (f ∙ index-coded negative o.first run.size v e) ∙ digits-indexed (accept v) e
+    pub digits-coded : (r : Option Lit) → said_lit r ≡ then_code negative (index o.first run.size)
+        → literal_of run.count (said_lit r) ≡ digits o negative s
+    digits-coded r e = ap (literal_of run.count) e ∙ by-code (index o.first run.size) ∙ digits-indexed (index o.first run.size) refl
+      where
+        by-code : (g : Checked ℕ) → literal_of run.count (then_code negative g) ≡ code_by negative run.count g
+        by-code (refuse e) = refl
+        by-code (accept v) = refl
 
 -- ---- `x` and digits
 module _ (o : Options) (negative : Bool) where
@@ -96,10 +85,11 @@ module _ (o : Options) (negative : Bool) where
 
 -- ---- `~` or `-`, or neither
 module _ (o : Options) where
-  pub literal-empty : (s : List ℕ) → length s ≡ 0 → none (fault 4) ≡ literal o s
-  unfolding literal
-  literal-empty [] e = refl
-  literal-empty (b ∷ s) e = absurd (omega arith)
+  -- nothing is a variable as little as a literal
+  pub literal-short : (s : List ℕ) → length s ≡ 0 → variable o false s ≡ literal o s
+  unfolding literal variable
+  literal-short [] e = refl
+  literal-short (b ∷ s) e = absurd (omega arith)
 
   pub literal-plain : (s : List ℕ) → (length s ≡ 0 → ⊥) → (get_or s 0 0 ≡ tilde → ⊥) → (get_or s 0 0 ≡ minus → ⊥)
       → variable o false s ≡ literal o s
@@ -107,12 +97,15 @@ module _ (o : Options) where
   literal-plain [] h n m = absurd (h refl)
   literal-plain (b ∷ s) h n m = rw (ne_eqb b tilde n, ne_eqb b minus m)
 
-  pub literal-negated : (s : List ℕ) → (length s ≡ 0 → ⊥) → (get_or s 0 0 ≡ tilde) ⊎ (get_or s 0 0 ≡ minus)
+  pub literal-negated : (s : List ℕ) → (length s ≡ 0 → ⊥) → ((get_or s 0 0 ≡ tilde → ⊥) → get_or s 0 0 ≡ minus)
       → more 1 (variable o true (drop 1 s)) ≡ literal o s
   unfolding literal
-  literal-negated [] h e = absurd (h refl)
-  literal-negated (b ∷ s) h (inl e) = rw e
-  literal-negated (b ∷ s) h (inr e) = rw e
+  literal-negated [] h m = absurd (h refl)
+  literal-negated (b ∷ s) h m = cases (eqb b tilde) refl
+    where
+      cases : (t : Bool) → eqb b tilde ≡ t → more 1 (variable o true s) ≡ literal o (b ∷ s)
+      cases true e = rw (eqb-true b tilde e)
+      cases false e = rw (m (eqb-false b tilde e))
 
   -- ---- how many bytes they take: a literal with them at its end takes no more than there are
   pub digits-within : (negative : Bool) (s : List ℕ) (c n : ℕ) → digits o negative s ≡ got c n → n ≤ length s

@@ -17,6 +17,7 @@ use Rattle.literals.proofs.Var.of_file.Reads as var-of-file
 use Rattle.literals.proofs.Var.lit.Reads as var-lit
 use Rattle.literals.proofs.Var.pos_lit.Reads as var-pos-lit
 use Rattle.literals.proofs.Var.neg_lit.Reads as var-neg-lit
+use Rattle.literals.proofs.Lit.of_digits.Reads as lit-of-digits
 use Rattle.literals.proofs.Lit.of_code.Reads as lit-of-code
 use Rattle.literals.proofs.Lit.code.Reads as lit-code
 use Rattle.literals.proofs.Lit.var.Reads as lit-var
@@ -81,6 +82,9 @@ var-pos-lit-one κs a r r' s s' p q = said-lit r r' (p ∙ sym q)
 
 pub var-neg-lit-one : (κs : _) (a : _) (r r' : _) (s s' : _) → var-neg-lit.Post κs a r s → var-neg-lit.Post κs a r' s' → r ≡ r'
 var-neg-lit-one κs a r r' s s' p q = said-lit r r' (p ∙ sym q)
+
+pub lit-of-digits-one : (κs : _) (a : _) (r r' : _) (s s' : _) → lit-of-digits.Post κs a r s → lit-of-digits.Post κs a r' s' → r ≡ r'
+lit-of-digits-one κs a r r' s s' p q = said-lit r r' (p ∙ sym q)
 
 pub lit-of-code-one : (κs : _) (a : _) (r r' : _) (s s' : _) → lit-of-code.Post κs a r s → lit-of-code.Post κs a r' s' → r ≡ r'
 lit-of-code-one κs a r r' s s' p q = same-lit r r' (p ∙ sym q)

@@ -6,7 +6,7 @@
 ghost use Rattle.std.specs.Prelude.{◌≡◌, true, false, not};
 ghost use Rattle.definitions.specs.Literal.{index, is_index, index_of, code_for, negated, opposite, file_number};
 ghost use Rattle.literals.specs.Said.{said_file_number, said_var, said_lit};
-ghost use Rattle.literals.specs.FileDigits.{file_number_of};
+ghost use Rattle.literals.specs.FileDigits.{file_number_of, then_code};
 
 use definitions::{FILE_NUMBER_LIMIT, INDEX_LIMIT};
 
@@ -108,6 +108,15 @@ impl Var {
 }
 
 impl Lit {
+    // The literal of the variable whose file number the digits stand for.
+    pub fn of_digits(size: u64, first: u32, negated: bool) -> Option<Lit>
+        ensures { said_lit result ≡ then_code negated (index first size) }
+    {
+        let number = FileNumber::of_digits(size)?;
+        let variable = Var::of_file(number, first)?;
+        variable.lit(negated)
+    }
+
     // The literal of a code, as a column of literals holds it.
     pub fn of_code(code: u32) -> Lit
         ensures { result.0 ≡ code }
