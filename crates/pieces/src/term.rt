@@ -5,94 +5,60 @@ ghost use Rattle.definitions.specs.Text.{after_weight, weighted, term_step};
 ghost use Rattle.pieces.specs.Said.{said_term, said_next};
 
 use definitions::{Beginning, Fault, Options};
-use literal_read::LiteralRead;
 use literals::Lit;
 
-// A term and the bytes that it takes, or what it is refused for.
-#[derive(Clone, Copy)]
-pub enum TermRead {
-    Term {
-        weight: i64,
-        literal: Lit,
-        taken: usize,
-    },
-    Refused(Fault),
+// "number missing, sign alone, or beyond 64 bits"
+const NO_NUMBER: Fault = Fault { number: 3 };
+
+// "no blank after a weight"
+const NO_BLANK: Fault = Fault { number: 4 };
+
+// A term and the bytes that it takes.
+#[derive(Clone, Copy, Debug, PartialEq, Eq)]
+pub struct Term {
+    pub weight: i64,
+    pub literal: Lit,
+    pub taken: usize,
 }
 
-// What follows a weight: blanks, literal, blanks. 4: "no blank after a weight".
-fn read_weighted(s: &[u8], options: Options, weight: i64) -> TermRead
+// What follows a weight: blanks, literal, blanks.
+fn read_weighted(s: &[u8], options: Options, weight: i64) -> Result<Term, Fault>
     ensures { said_term result ≡ after_weight options weight s.now }
 {
     let k = blanks::blanks_of(s);
     if k == 0 {
-        return TermRead::Refused(Fault { number: 4 });
+        return Err(NO_BLANK);
     }
-    match literal_read::read_literal(&s[k..], options) {
-        LiteralRead::Refused(e) => TermRead::Refused(e),
-        LiteralRead::Literal(literal, n) => {
-            let a = k + n;
-            let j = blanks::blanks_of(&s[a..]);
-            TermRead::Term {
-                weight,
-                literal,
-                taken: a + j,
-            }
-        }
-    }
+    let (literal, n) = literal_read::read_literal(&s[k..], options)?;
+    let a = k + n;
+    let j = blanks::blanks_of(&s[a..]);
+    Ok(Term {
+        weight,
+        literal,
+        taken: a + j,
+    })
 }
 
-pub fn read_term(s: &[u8], options: Options) -> TermRead
+pub fn read_term(s: &[u8], options: Options) -> Result<Term, Fault>
     ensures { said_term result ≡ weighted options s.now }
 {
-    let Some((w, n)) = numbers::read_number(s) else {
-        return TermRead::Refused(Fault { number: 3 });
-    };
-    match read_weighted(&s[n..], options, w) {
-        TermRead::Refused(e) => TermRead::Refused(e),
-        TermRead::Term {
-            weight,
-            literal,
-            taken,
-        } => TermRead::Term {
-            weight,
-            literal,
-            taken: n + taken,
-        },
-    }
+    let (weight, n) = numbers::read_number(s).ok_or(NO_NUMBER)?;
+    let term = read_weighted(&s[n..], options, weight)?;
+    Ok(Term {
+        taken: n + term.taken,
+        ..term
+    })
 }
 
-// Where a sum goes on: the next term, or no digit and no sign.
-#[derive(Clone, Copy)]
-pub enum NextTerm {
-    Term {
-        weight: i64,
-        literal: Lit,
-        taken: usize,
-    },
-    Refused(Fault),
-    Stop,
-}
-
-// "A digit or sign after a term begins another."
-pub fn next_term(s: &[u8], options: Options) -> NextTerm
+// "A digit or sign after a term begins another." Where neither stands, the sum stops: `None`.
+pub fn next_term(s: &[u8], options: Options) -> Result<Option<Term>, Fault>
     ensures { said_next result ≡ term_step options s.now }
 {
     if s.len() == 0 {
-        return NextTerm::Stop;
+        return Ok(None);
     }
     let Beginning::Constraint = symbols::beginning_of(s[0]) else {
-        return NextTerm::Stop;
+        return Ok(None);
     };
-    match read_term(s, options) {
-        TermRead::Refused(e) => NextTerm::Refused(e),
-        TermRead::Term {
-            weight,
-            literal,
-            taken,
-        } => NextTerm::Term {
-            weight,
-            literal,
-            taken,
-        },
-    }
+    Ok(Some(read_term(s, options)?))
 }

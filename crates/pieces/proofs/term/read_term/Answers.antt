@@ -1,14 +1,15 @@
 -- `read_term` meets its contract: a number, and behind it what `read_weighted` reads (proofs/Terms.antt).
 use native.Mathlib.Omega.{arith}
 use mathlib.Core.Path.{◌≡◌, sym, ap, ◌∙◌}
-use Prim.Native.Nat.{ℕ, ◌≤◌}
-use mathlib.Core.List.{List}
+use Prim.Native.Nat.{◌≤◌}
 use lib.ListN.{length, drop, length-drop}
-use lib.IntN.{ℤ}
 use mir.Syntax.{w64}
 use mir.Val.{SFits}
 use mir.Facts.{to_z-of_z}
-use Rattle.definitions.specs.Reader.{got, more}
+use Rattle.std.proofs.Common.{rules}
+use Rattle.std.proofs.lemmas.Result.{err_from_is_err_and}
+use Rattle.definitions.specs.Refusal.{fault}
+use Rattle.definitions.specs.Reader.{none, got, more}
 use Rattle.definitions.specs.Number.{number}
 use Rattle.definitions.specs.Text.{after_weight, weighted}
 use Rattle.definitions.proofs.Numbers.{number-within, number_fits}
@@ -18,68 +19,61 @@ use Rattle.numbers.specs.Read.{said}
 use Rattle.pieces.specs.Said.{said_term}
 use Rattle.pieces.proofs.Terms.{weighted-missing, weighted-number}
 use Rattle.pieces.proofs.term.read_term.Goals as goal
-use Rattle.pieces.proofs.term.read_term.Goals.{After-read_weighted, In-Some, Start}
+use Rattle.pieces.proofs.term.read_term.Goals.{After-read_weighted, In_ok-weight}
 
 -- a number is read
-module _ (c : In-Some) where
-  abbrev start : Start
-  start = (goal.at.In-Some c).Start
+module _ (c : In_ok-weight) where
+  read : got c.in_ok-weight.weight c.in_ok-weight.n ≡ number c.args.s.now
+  read = sym (ap said c.in_ok-weight.ensures.ok_part) ∙ c.read_number.ensures
 
-  abbrev text : List ℕ
-  text = start.args.s.now
-
-  abbrev weight : ℤ
-  weight = c.in-Some.w
-
-  abbrev count : ℕ
-  count = c.in-Some.n
-
-  read : got weight count ≡ number text
-  read = sym (ap said c.in-Some.is) ∙ c.read_number.ensures
-
-  taken : count ≤ length text
-  taken = (number-within text (sym read)).1
-
-  weight-fits : SFits w64 weight
-  weight-fits = number_fits text (sym read)
+  taken : c.in_ok-weight.n ≤ length c.args.s.now
+  taken = (number-within c.args.s.now (sym read)).1
 
 -- and what stands behind it
 module _ (c : After-read_weighted) where
-  abbrev place : In-Some
-  place = (goal.at.After-read_weighted c).In-Some
+  number-read : got c.in_ok-weight.weight c.in_ok-weight.n ≡ number c.args.s.now
+  number-read = read (goal.at.After-read_weighted c).In_ok-weight
 
-  behind : said_term c.read_weighted.result ≡ after_weight (start place).args.options (weight place) (drop (count place) (text place))
-  behind = rw (part-is (text place) (count place), to_z-of_z (weight-fits place)) at c.read_weighted.ensures
+  behind : said_term c.read_weighted.result ≡ after_weight c.args.options c.in_ok-weight.weight (drop c.in_ok-weight.n c.args.s.now)
+  behind = rw (part-is c.args.s.now c.in_ok-weight.n, to_z-of_z (number_fits c.args.s.now (sym number-read))) at c.read_weighted.ensures
 
-  answer : more (count place) (said_term c.read_weighted.result) ≡ weighted (start place).args.options (text place)
-  answer = ap (more (count place)) behind ∙ weighted-number _ _ _ _ (read place)
+  answer : more c.in_ok-weight.n (said_term c.read_weighted.result) ≡ weighted c.args.options c.args.s.now
+  answer = ap (more c.in_ok-weight.n) behind ∙ weighted-number _ _ _ _ number-read
 
-pub returns-in_default : goal.returns-in_default
-returns-in_default c = weighted-missing _ _ (sym (ap said c.in_default.is) ∙ c.read_number.ensures)
+pub returns-in_err-weight : goal.returns-in_err-weight
+returns-in_err-weight c =
+    let p = err_from_is_err_and c.from_residual.result c.from_residual.ensures.1 in
+    let h = c.in_err-weight.ensures in
+    let v = rw h.ok_part at h.value in
+    let e : c.in_err-weight.field-0.0 ≡ fault 3 = cc in
+    let m : none (fault 3) ≡ number c.args.s.now = sym (ap said h.ok_part) ∙ c.read_number.ensures in
+    rw (p.1, p.2) (ap none e ∙ weighted-missing _ _ m)
 
 pub slice_bounds-read_weighted-count : goal.slice_bounds-read_weighted-count
-slice_bounds-read_weighted-count c = taken c
+slice_bounds-read_weighted-count c = taken (goal.at.slice_bounds-read_weighted-count c).In_ok-weight
 
 pub slice_bounds-read_weighted-start : goal.slice_bounds-read_weighted-start
-slice_bounds-read_weighted-start c = taken c
+slice_bounds-read_weighted-start c = taken (goal.at.slice_bounds-read_weighted-start c).In_ok-weight
+
+pub returns-in_err-term : goal.returns-in_err-term
+returns-in_err-term c =
+    let p = err_from_is_err_and c.from_residual-in_err-term.result c.from_residual-in_err-term.ensures.1 in
+    rw (p.1, p.2) (sym (ap (λ r. more c.in_ok-weight.n (said_term r)) c.in_err-term.was) ∙ answer (goal.at.returns-in_err-term c).After-read_weighted)
 
 pub overflow_add-result : goal.overflow_add-result
 overflow_add-result c =
-    let p = place (goal.at.overflow_add-result c).After-read_weighted in
+    let s = c.args.s.now in
+    let n = c.in_ok-weight.n in
+    let d = (goal.at.overflow_add-result c).After-read_weighted in
     omega (
       arith,
-      (within-after-weight (start p).args.options (weight p)).most (drop (count p) (text p)) _ _
-          (sym (behind (goal.at.overflow_add-result c).After-read_weighted) ∙ ap said_term c.in-Term.is),
-      length-drop (count p) (text p),
-      taken p,
-      (start p).well_formed.0.0,
+      (within-after-weight c.args.options c.in_ok-weight.weight).most (drop n s) _ _ (sym (behind d) ∙ ap said_term c.in_ok-term.was),
+      length-drop n s,
+      taken (goal.at.overflow_add-result c).In_ok-weight,
+      c.well_formed,
     )
 
-pub returns-in-Refused : goal.returns-in-Refused
-returns-in-Refused c = sym (ap (λ r. more (count (place (goal.at.returns-in-Refused c).After-read_weighted)) (said_term r)) c.in-Refused.is)
-    ∙ answer (goal.at.returns-in-Refused c).After-read_weighted
-
-pub returns-in-Term : goal.returns-in-Term
-returns-in-Term c =
-    let f : SFits w64 c.in-Term.weight = record { sfits = c.in-Term.known_told-in-Term-1-own.given.0.1 } in
-    rw (to_z-of_z f) (sym (ap (λ r. more (count (place (goal.at.returns-in-Term c).After-read_weighted)) (said_term r)) c.in-Term.is) ∙ answer (goal.at.returns-in-Term c).After-read_weighted)
+pub returns : goal.returns
+returns c =
+    let f : SFits w64 c.in_ok-term.term.weight = search rules in
+    rw (to_z-of_z f) (sym (ap (λ r. more c.in_ok-weight.n (said_term r)) c.in_ok-term.was) ∙ answer (goal.at.returns c).After-read_weighted)
