@@ -12,15 +12,16 @@ use mir.Syntax.{w64}
 use mir.Val.{SFits, to_z, of_z}
 use mir.Facts.{to_z-of_z, to_z_pos}
 use Rattle.definitions.specs.Number.{signed}
-use Rattle.definitions.specs.Refusal.{Checked, refuse, accept}
-use Rattle.definitions.specs.Literal.{index, code_for}
+use Rattle.definitions.specs.Refusal.{Checked, accept}
+use Rattle.definitions.specs.Literal.{index}
 use Rattle.definitions.specs.Text.{term_step}
 use Rattle.definitions.specs.declared.Options.{Options}
 use Rattle.definitions.proofs.Parts.{part-is}
 use Rattle.definitions.proofs.Statements.{term-moves}
 use Rattle.term_checks.specs.Sizes.{size_cap, capped}
 use Rattle.plain.proofs.PlainTerms.{plain-is-term}
-use Rattle.literals.proofs.Conversions.{accepted, no-refusal, index-within, literal-within}
+use Rattle.literals.specs.FileDigits.{then_code}
+use Rattle.literals.proofs.Conversions.{index-within}
 use Rattle.numbers.proofs.Signed.{neg-sfits, neg_is}
 use Rattle.sums.specs.Walked.{TermPut}
 use Rattle.plain.specs.Plain.{said_plain, plain_at, plain_term, PlainFits, PlainIs}
@@ -46,19 +47,13 @@ module _ (n : ℕ) (h : n < 100_000_000) where
   pub weight-plain : {b : Bool} {x : ℕ} → b ≡ false → x ≡ n → to_z w64 x ≡ signed b n
   weight-plain t e = rw (t, e) (to_z_pos w64 (omega arith))
 
--- ---- a literal's code by its file number and its index, neither out of range
+-- ---- a literal's code by its file number, which is not out of range
 module _ {first : ℕ} {p : PlainTerm} (h : PlainFits first p) where
   indexed : accept (p.number - first) ≡ index first p.number
   indexed = index-within first p.number (omega (arith, h.most)) h.least (omega (arith, h.most))
 
-  pub plain-indexed : refuse 5 ≡ index first p.number → ⊥
-  plain-indexed e = no-refusal _ 5 (indexed ∙ sym e)
-
-  pub plain-coded : {i : ℕ} {x : Checked ℕ} → accept i ≡ index first p.number → x ≡ code_for p.negated i
-      → x ≡ accept (plain_term first p).code
-  plain-coded {i} e c =
-      let q : i ≡ p.number - first = accepted i _ (e ∙ sym indexed) in
-      c ∙ rw q (sym (literal-within p.negated (p.number - first) (omega (arith, h.most))))
+  pub plain-coded : {x : Checked ℕ} → x ≡ then_code p.negated (index first p.number) → x ≡ accept (plain_term first p).code
+  plain-coded e = e ∙ ap (then_code p.negated) (sym indexed)
 
 -- ---- what a run keeps: it ends within the text, has no more terms than bytes, and no column is longer or shorter than
 -- it was

@@ -24,7 +24,7 @@ use Rattle.definitions.proofs.Statements.{term-moves}
 use Rattle.term_checks.specs.Sizes.{capped}
 use Rattle.sums.specs.Met.{met_from, met_terms}
 use Rattle.sums.specs.Walked.{TermsPut, TermPut, SumWalked}
-use Rattle.sums.specs.declared.SumRead.TheVariants as walked
+use Rattle.std.specs.Prelude.{Ok, Err}
 use Rattle.sums.proofs.MetTerms.{met-stop, met-bad, met-item}
 use Rattle.sums.proofs.Sums.{Summing, summing_start, summing-stop, summing-bad, summing-term}
 
@@ -89,11 +89,11 @@ module _ (o : Options) (s : List ℕ) (w₀ : List ℤ) (l₀ : List ℕ) where
     ended : met_from (term_step o) (drop at s) 0 ≡ [] → TermsPut (met_terms o s) w₀ l₀ w l
     ended e = rw (i.met ∙ ap (λ (x : List Term). i.summing.terms ++ x) e ∙ append-nil i.summing.terms) i.put
 
-    pub walking-stop : term_step o (drop at s) ≡ stop → SumWalked o s w₀ l₀ (walked.Sum count size at) w l
+    pub walking-stop : term_step o (drop at s) ≡ stop → SumWalked o s w₀ l₀ (Ok (record { terms = count; size = size; taken = at })) w l
     walking-stop e =
         record { answer = summing-stop o s at count size i.summing e; filled = ended (met-stop (term_step o) (drop at s) e) }
 
-    pub walking-bad : (r : Refusal) → term_step o (drop at s) ≡ bad r → SumWalked o s w₀ l₀ (walked.Refused (fault_of r)) w l
+    pub walking-bad : (r : Refusal) → term_step o (drop at s) ≡ bad r → SumWalked o s w₀ l₀ (Err (fault_of r)) w l
     walking-bad r e =
         record { answer = summing-bad o s at count size i.summing r e; filled = ended (met-bad (term_step o) (drop at s) r e) }
 

@@ -1,10 +1,10 @@
 -- What is answered of a sum: how many terms it has, and how large they are together.
-use Rattle.std.specs.Prelude.{ℕ, List, length}
+use Rattle.std.specs.Prelude.{ℕ, List, length, Result, Ok, Err}
 use Rattle.definitions.specs.Reader.{Got, none, got}
 use Rattle.definitions.specs.Row.{Term, sizes}
+use Rattle.definitions.specs.declared.Fault.{Fault}
 use Rattle.term_checks.specs.Sizes.{capped}
-use Rattle.sums.specs.declared.SumRead.{SumRead}
-use Rattle.sums.specs.declared.SumRead.TheVariants as read
+use Rattle.sums.specs.declared.Sum.{Sum}
 
 pub record SumBrief : Type 0 where
   pub terms : ℕ
@@ -17,6 +17,6 @@ abbrev pub summed : Got (List Term) → Got SumBrief
 summed (none e) = none e
 summed (got ts n) = got (sum_brief (length ts) (capped (sizes ts))) n
 
-abbrev pub said_sum : SumRead → Got SumBrief
-said_sum (read.Sum n m k) = got (sum_brief n m) k
-said_sum (read.Refused e) = none e
+abbrev pub said_sum : Result Sum Fault → Got SumBrief
+said_sum (Ok r) = got (sum_brief r.terms r.size) r.taken
+said_sum (Err e) = none e

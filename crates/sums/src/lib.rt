@@ -9,17 +9,13 @@ ghost use Rattle.sums.specs.Walked.{TermPut, SumWalked};
 
 use definitions::{Fault, Options};
 use literals::Lit;
-use pieces::NextTerm;
 
-// How many terms, their absolute weights added up to a cap, and the bytes that they take; or what is refused.
-#[derive(Clone, Copy)]
-pub enum SumRead {
-    Sum {
-        terms: usize,
-        size: u64,
-        taken: usize,
-    },
-    Refused(Fault),
+// How many terms, their absolute weights added up to a cap, and the bytes that they take.
+#[derive(Clone, Copy, Debug, PartialEq, Eq)]
+pub struct Sum {
+    pub terms: usize,
+    pub size: u64,
+    pub taken: usize,
 }
 
 // A term at a place of two columns, if both have it.
@@ -39,7 +35,7 @@ pub fn weighted_lit_sum(
     options: Options,
     weights: &mut [i64],
     literals: &mut [u32],
-) -> SumRead
+) -> Result<Sum, Fault>
     ensures { SumWalked options s.now weights.old literals.old result weights.new literals.new }
 {
     let mut count: usize = 0;
@@ -50,25 +46,16 @@ pub fn weighted_lit_sum(
         count = run.terms;
         size = run.size;
         at += run.taken;
-        match pieces::next_term(&s[at..], options) {
-            NextTerm::Stop => {
-                return SumRead::Sum {
-                    terms: count,
-                    size,
-                    taken: at,
-                };
-            }
-            NextTerm::Refused(e) => return SumRead::Refused(e),
-            NextTerm::Term {
-                weight,
-                literal,
-                taken,
-            } => {
-                put_term(weights, literals, count, weight, literal);
-                size = term_checks::add_size(size, weight);
-                count += 1;
-                at += taken;
-            }
-        }
+        let Some(term) = pieces::next_term(&s[at..], options)? else {
+            return Ok(Sum {
+                terms: count,
+                size,
+                taken: at,
+            });
+        };
+        put_term(weights, literals, count, term.weight, term.literal);
+        size = term_checks::add_size(size, term.weight);
+        count += 1;
+        at += term.taken;
     }
 }

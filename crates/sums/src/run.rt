@@ -1,14 +1,12 @@
 // Plain terms one after the other: the loop where a file's time goes. Assumes nothing.
 ghost use Rattle.std.specs.Prelude.{◌≡◌, ◌+◌, ◌≤◌, ◌<◌, ◌^◌, length};
-ghost use Rattle.definitions.specs.Refusal.{accept};
-ghost use Rattle.literals.specs.Said.{said_lit};
 ghost use Rattle.term_checks.specs.Sizes.{size_cap, capped};
 ghost use Rattle.sums.specs.Walked.{TermPut};
 ghost use Rattle.plain.specs.Plain.{PlainFits, plain_term};
 ghost use Rattle.sums.specs.Run.{RunSays};
 
 use definitions::Options;
-use literals::{FileNumber, Lit, Var};
+use literals::Lit;
 use plain::PlainTerm;
 use term_checks::SIZE_CAP;
 
@@ -21,23 +19,13 @@ pub struct PlainRun {
     pub taken: usize,
 }
 
-// The literal of a plain term, by its file number and its variable. Neither is out of range.
-fn plain_lit(term: PlainTerm, first: u32) -> Option<Lit>
-    requires { PlainFits first term }
-    ensures { said_lit result ≡ accept (plain_term first term).code }
-{
-    let n = FileNumber::of_digits(term.number)?;
-    let v = Var::of_file(n, first)?;
-    v.lit(term.negated)
-}
-
-// A plain term at a place of two columns, if both have it.
+// A plain term at a place of two columns, if both have it. Its file number is not out of range.
 fn put_plain(weights: &mut [i64], literals: &mut [u32], at: usize, term: PlainTerm, first: u32)
     requires { PlainFits first term }
     ensures { TermPut at (plain_term first term).weight (plain_term first term).code weights.old literals.old weights.new literals.new }
 {
     if at < columns::term_room(weights, literals) {
-        let Some(literal) = plain_lit(term, first) else {
+        let Some(literal) = Lit::of_digits(term.number, first, term.negated) else {
             return;
         };
         let size = term.size as i64;

@@ -6,9 +6,9 @@ use lib.ListN.{length}
 use Rattle.sums.proofs.Walking.{Walking}
 use Rattle.sums.proofs.weighted_lit_sum.Given as goal
 
-abbrev pub invariant-loop-e : goal.invariant-loop-e
-invariant-loop-e l =
+abbrev pub invariant-loop-term : goal.invariant-loop-term
+invariant-loop-term l =
     Walking l.options l.s l.initial.weights l.initial.literals l.at l.count l.size l.weights l.literals
 
-abbrev pub decreases-loop-e : goal.decreases-loop-e
-decreases-loop-e l = length l.s - l.at
+abbrev pub decreases-loop-term : goal.decreases-loop-term
+decreases-loop-term l = length l.s - l.at

@@ -7,20 +7,20 @@ use Rattle.literals.specs.Said.{said_lit}
 use Rattle.literals.proofs.Conversions.{accepted, no-refusal}
 use Rattle.plain.specs.Plain.{plain_term}
 use Rattle.sums.proofs.Walking.{put-there, put-nowhere}
-use Rattle.sums.proofs.Runs.{minus-fits, weight-negative, weight-plain}
+use Rattle.sums.proofs.Runs.{minus-fits, plain-coded, weight-negative, weight-plain}
 use Rattle.sums.proofs.run.put_plain.Goals as goal
-use Rattle.sums.proofs.run.put_plain.Goals.{After-plain_lit, In-Some, Joined-term, Start, then-term, else-term}
+use Rattle.sums.proofs.run.put_plain.Goals.{After-of_digits, In-Some, Joined-term, Start, then-term, else-term}
 
 -- the literal is there
 module _ (c : In-Some) where
-  abbrev lit : After-plain_lit
-  lit = (goal.at.In-Some c).After-plain_lit
+  abbrev lit : After-of_digits
+  lit = (goal.at.In-Some c).After-of_digits
 
   abbrev start : Start
   start = (goal.at.In-Some c).Start
 
   code_is : {x : ℕ} → x ≡ c.in-Some.literal.0 → x ≡ (plain_term start.args.first start.args.term).code
-  code_is e = e ∙ accepted _ _ (sym (ap said_lit c.in-Some.is) ∙ lit.plain_lit.ensures)
+  code_is e = e ∙ accepted _ _ (sym (ap said_lit c.in-Some.is) ∙ plain-coded start.requires lit.of_digits.ensures)
 
 -- and the weight
 module _ (c : Joined-term) where
@@ -28,7 +28,7 @@ module _ (c : Joined-term) where
   begin = start (goal.at.Joined-term c).In-Some
 
 pub returns-in_default : goal.returns-in_default
-returns-in_default c = absurd (no-refusal _ 5 (sym c.plain_lit.ensures ∙ ap said_lit c.in_default.is))
+returns-in_default c = absurd (no-refusal _ 5 (sym (plain-coded c.requires c.of_digits.ensures) ∙ ap said_lit c.in_default.is))
 
 pub overflow_sub-weights : goal.overflow_sub-weights
 overflow_sub-weights c = minus-fits _ (start (goal.at.overflow_sub-weights c).In-Some).requires.size
