@@ -7,7 +7,6 @@ ghost use Rattle.house_lengths.specs.Lengths.{line_length};
 ghost use Rattle.listing_lengths.specs.Measure.{fields_length};
 
 use definitions::{Beginning, Entry, Options};
-use pieces::NextTerm;
 
 // The fields of the terms that stand at the front of s. A literal that was read has a file number, so each has a
 // length.
@@ -16,23 +15,14 @@ fn sum_length(s: &[u8], options: Options) -> u64
 {
     let mut total: u64 = 0;
     let mut at: usize = 0;
-    loop {
-        match pieces::next_term(&s[at..], options) {
-            NextTerm::Stop => return total,
-            NextTerm::Refused(_) => return total,
-            NextTerm::Term {
-                weight,
-                literal,
-                taken,
-            } => {
-                let Some(n) = house_lengths::term_length(weight, literal, options.first) else {
-                    return 0;
-                };
-                total = lengths::add_needed(total, n as u64);
-                at += taken;
-            }
-        }
+    while let Ok(Some(term)) = pieces::next_term(&s[at..], options) {
+        let Some(n) = house_lengths::term_length(term.weight, term.literal, options.first) else {
+            return 0;
+        };
+        total = lengths::add_needed(total, n as u64);
+        at += term.taken;
     }
+    total
 }
 
 // The same for the objective at the front of s.

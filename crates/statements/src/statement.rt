@@ -10,7 +10,6 @@ ghost use Rattle.statements.specs.Said.{said_statement};
 
 use crate::row::Line;
 use definitions::{Beginning, Entry, Fault, Options, Refusal};
-use sums::SumRead;
 
 fn constraint(
     s: &[u8],
@@ -20,13 +19,9 @@ fn constraint(
 ) -> Result<(Entry, usize), Fault>
     ensures { RowWalked (constraint options s.now) (met_terms options s.now) weights.old literals.old result weights.new literals.new }
 {
-    match sums::weighted_lit_sum(s, options, weights, literals) {
-        SumRead::Refused(e) => Err(e),
-        SumRead::Sum { terms, size, taken } => crate::row::behind(
-            taken,
-            closings::close_constraint(&s[taken..], options, terms, size),
-        ),
-    }
+    let sum = sums::weighted_lit_sum(s, options, weights, literals)?;
+    let closed = closings::close_constraint(&s[sum.taken..], options, sum.terms, sum.size);
+    crate::row::behind(sum.taken, closed)
 }
 
 fn objective(
@@ -41,13 +36,10 @@ fn objective(
         return Err(Fault { number: 2 });
     };
     let a = k + 4;
-    match sums::weighted_lit_sum(&s[a..], options, weights, literals) {
-        SumRead::Refused(e) => Err(e),
-        SumRead::Sum { terms, size, taken } => {
-            let e = a + taken;
-            crate::row::behind(e, closings::close_objective(&s[e..], options, terms, size))
-        }
-    }
+    let sum = sums::weighted_lit_sum(&s[a..], options, weights, literals)?;
+    let e = a + sum.taken;
+    let closed = closings::close_objective(&s[e..], options, sum.terms, sum.size);
+    crate::row::behind(e, closed)
 }
 
 // "Blanks before a statement are skipped. At the end of the file that is a normal end." A step of the reader's own:

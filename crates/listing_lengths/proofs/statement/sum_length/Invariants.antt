@@ -5,8 +5,8 @@ use lib.ListN.{length}
 use Rattle.listing_lengths.proofs.SumLengths.{SumSized}
 use Rattle.listing_lengths.proofs.statement.sum_length.Given as goal
 
-abbrev pub invariant-loop-weight : goal.invariant-loop-weight
-invariant-loop-weight l = SumSized l.options l.s l.at l.total
+abbrev pub invariant-loop-term : goal.invariant-loop-term
+invariant-loop-term l = SumSized l.options l.s l.at l.total
 
-abbrev pub decreases-loop-weight : goal.decreases-loop-weight
-decreases-loop-weight l = length l.s - l.at
+abbrev pub decreases-loop-term : goal.decreases-loop-term
+decreases-loop-term l = length l.s - l.at

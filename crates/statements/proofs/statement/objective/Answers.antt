@@ -5,6 +5,7 @@ use mathlib.Core.List.{List}
 use mathlib.Core.Path.{◌≡◌, sym, ap, subst, ◌∙◌}
 use native.Mathlib.Omega.{arith}
 use lib.ListN.{length, drop, length-drop}
+use Rattle.std.proofs.lemmas.Result.{err_from_is_err_and}
 use Rattle.definitions.specs.Reader.{got, more}
 use Rattle.definitions.specs.Text.{sum, min_blanks, ending}
 use Rattle.definitions.proofs.Parts.{part-is}
@@ -20,7 +21,7 @@ use Rattle.statements.proofs.MetTerms.{none-put, goal-none, goal-behind}
 use Rattle.statements.proofs.Rows.{goal-no-min, goal-no-sum, goal-sum, ended-fits}
 use Rattle.sums.proofs.Sums.{SumIs, sum_of, sum-refused}
 use Rattle.statements.proofs.statement.objective.Goals as goal
-use Rattle.statements.proofs.statement.objective.Goals.{After-close_objective, After-weighted_lit_sum, In-Some, In-Sum, Start}
+use Rattle.statements.proofs.statement.objective.Goals.{After-close_objective-closed, After-weighted_lit_sum, In-Some, In_ok-sum, Start}
 
 -- `min:` is read
 module _ (c : In-Some) where
@@ -67,9 +68,9 @@ module _ (c : After-weighted_lit_sum) where
       c.weighted_lit_sum.ensures.filled
 
 -- a sum
-module _ (c : In-Sum) where
+module _ (c : In_ok-sum) where
   abbrev at_sum : After-weighted_lit_sum
-  at_sum = (goal.at.In-Sum c).After-weighted_lit_sum
+  at_sum = (goal.at.In_ok-sum c).After-weighted_lit_sum
 
   abbrev whole : List ℕ
   whole = text (behind-min at_sum)
@@ -78,16 +79,16 @@ module _ (c : In-Sum) where
   from = min-end (behind-min at_sum)
 
   abbrev terms : ℕ
-  terms = c.in-Sum.terms
+  terms = c.in_ok-sum.sum.terms
 
   abbrev size : ℕ
-  size = c.in-Sum.size
+  size = c.in_ok-sum.sum.size
 
   abbrev count : ℕ
-  count = c.in-Sum.taken
+  count = c.in_ok-sum.sum.taken
 
   sum_is : SumIs (start (behind-min at_sum)).args.options (drop from whole) terms size count
-  sum_is = sum_of _ (drop from whole) terms size count (sym (ap said_sum c.in-Sum.is) ∙ sum_said at_sum)
+  sum_is = sum_of _ (drop from whole) terms size count (sym (ap said_sum c.in_ok-sum.was) ∙ sum_said at_sum)
 
   sum-end-within : from + count ≤ length whole
   sum-end-within =
@@ -113,27 +114,27 @@ pub slice_bounds-weighted_lit_sum-start : goal.slice_bounds-weighted_lit_sum-sta
 slice_bounds-weighted_lit_sum-start c = min-within c
 
 pub overflow_add-e : goal.overflow_add-e
-overflow_add-e c = omega (arith, sum-end-within c)
+overflow_add-e c = omega (arith, sum-end-within (goal.at.overflow_add-e c).In_ok-sum)
 
 pub slice_bounds-close_objective-count : goal.slice_bounds-close_objective-count
-slice_bounds-close_objective-count c = sum-end-within c
+slice_bounds-close_objective-count c = sum-end-within (goal.at.slice_bounds-close_objective-count c).In_ok-sum
 
 pub slice_bounds-close_objective-start : goal.slice_bounds-close_objective-start
-slice_bounds-close_objective-start c = sum-end-within c
+slice_bounds-close_objective-start c = sum-end-within (goal.at.slice_bounds-close_objective-start c).In_ok-sum
 
 -- and what closes it
-module _ (c : After-close_objective) where
-  abbrev told : In-Sum
-  told = (goal.at.After-close_objective c).In-Sum
+module _ (c : After-close_objective-closed) where
+  abbrev told : In_ok-sum
+  told = (goal.at.After-close_objective-closed c).In_ok-sum
 
   abbrev end : ℕ
   end = from told + count told
 
-  closed : said_row c.close_objective.result
+  closed : said_row c.close_objective-closed.result
       ≡ ended_by (start (behind-min (at_sum told))).args.options (terms told) (size told)
       (ending (drop end (whole told)))
   closed =
-      c.close_objective.ensures
+      c.close_objective-closed.ensures
       ∙ ap (λ (t : List ℕ). ended_by (start (behind-min (at_sum told))).args.options (terms told) (size told)
       (ending t))
       (part-is (whole told) end)
@@ -145,19 +146,19 @@ behind-requires c =
     (ended-fits (start (behind-min (at_sum d))).args.options (terms d) (size d) (end c) (drop (end c) (whole d))
     (omega (arith, sum-end-within d, length-drop (end c) (whole d), (start (behind-min (at_sum d))).well_formed.0.0)))
 
-pub returns-in-Refused : goal.returns-in-Refused
-returns-in-Refused c =
-    let p = (goal.at.returns-in-Refused c).After-weighted_lit_sum in
+pub returns-in_err-sum : goal.returns-in_err-sum
+returns-in_err-sum c =
+    let q = err_from_is_err_and c.from_residual.result c.from_residual.ensures.1 in
+    let p = (goal.at.returns-in_err-sum c).After-weighted_lit_sum in
     let b = behind-min p in
-    record {
-      answer = goal-no-sum _ (text b) _ _ (min-got b) _
-          (sum-refused _ _ _ (sym (ap said_sum c.in-Refused.is) ∙ sum_said p));
+    rw (q.1, q.2) (record {
+      answer = goal-no-sum _ (text b) _ _ (min-got b) _ (sum-refused _ _ _ (sym (ap said_sum c.in_err-sum.was) ∙ sum_said p));
       filled = sum-put p;
-    }
+    })
 
-pub returns-in-Sum : goal.returns-in-Sum
-returns-in-Sum c =
-    let p = (goal.at.returns-in-Sum c).After-close_objective in
+pub returns : goal.returns
+returns c =
+    let p = (goal.at.returns c).After-close_objective-closed in
     let d = told p in
     record {
       answer =
