@@ -1,6 +1,7 @@
 -- The first conflict, found window by window: a conflict of a literal depends only on what was said of its own
 -- variable, so that each window of variables has a walk of its own.
-use Rattle.std.specs.Prelude.{ℕ, ◌+◌, ◌-◌, ◌*◌, ◌<◌, min, ◌≡◌, Bool, true, false, cond, not, ◌&&◌, ◌||◌, List, [], ◌∷◌, ◌++◌, leb, ltb}
+use Rattle.std.specs.Prelude.{ℕ, ◌+◌, ◌-◌, ◌*◌, ◌<◌, min, ◌≡◌, Bool, true, false, cond, not, ◌&&◌, ◌||◌, List, [], ◌∷◌, ◌++◌, leb, ltb, Option}
+use Rattle.std.specs.Bool.{then_some}
 use Rattle.definitions.specs.Limits.{index_limit}
 use Rattle.definitions.specs.Literal.{index_of, opposite}
 use Rattle.definitions.specs.Meaning.{is_true, assigned, is_known}
@@ -19,6 +20,10 @@ unfoldable pub conflict_at : List ℕ → List ℕ → List ℕ → ℕ → List
 conflict_at ws ks heard end [] = end
 conflict_at ws ks heard end (x ∷ xs) =
     elim (conflicts ws ks heard x.code) [ true ↦ x.place | false ↦ conflict_at ws ks (heard ++ (x.code ∷ [])) end xs ]
+
+-- the place of the first conflict before `end`, if there is one
+abbrev pub conflict_before : List ℕ → List ℕ → ℕ → List Placed → Option ℕ
+conflict_before ws ks end xs = then_some (ltb (conflict_at ws ks [] end xs) end) (conflict_at ws ks [] end xs)
 
 -- those whose variable the test holds for
 unfoldable pub only : (ℕ → Bool) → List Placed → List Placed

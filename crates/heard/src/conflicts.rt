@@ -1,11 +1,11 @@
 // The first conflict in a block of signed numbers or `x` tokens (02, A1: "22 conflicting value"). Nothing may be marked
 // in the lent words before the block is known to be good, so what a token said is marked in a local row of bits, for a
 // window of variables; each window in use has a walk of its own. Assumes nothing.
-ghost use Rattle.std.specs.Prelude.{◌≡◌, [], ◌≤◌, length};
+ghost use Rattle.std.specs.Prelude.{◌≡◌, ◌≤◌, length};
 ghost use Rattle.definitions.specs.Literal.{index_of};
 ghost use Rattle.definitions.specs.Values.{front, items_from};
 ghost use Rattle.settling.specs.Flat.{said_by};
-ghost use Rattle.heard.specs.Windows.{conflict_at, window_of, marks_size, PlacesBelow, Unmarked, clashes, meet_of, marked_by, noted};
+ghost use Rattle.heard.specs.Windows.{conflict_before, window_of, marks_size, PlacesBelow, Unmarked, clashes, meet_of, marked_by, noted};
 
 use bits::{bit_at, is_otherwise, make_bit};
 use definitions::INDEX_LIMIT;
@@ -127,16 +127,16 @@ fn walk_for(
     mark_window(block, named, end, base, &mut marks, values, known)
 }
 
-// The place of the first conflict before `end`, where the first walk stopped; `end` where there is none.
+// The place of the first conflict before `end`, where the first walk stopped.
 pub(crate) fn first_conflict(
     block: &[u8],
     named: bool,
     end: usize,
     values: &[u64],
     known: &[u64],
-) -> usize
+) -> Option<usize>
     requires { PlacesBelow end (said_by named (items_from front 0 block.now)) }
-    ensures { result ≡ conflict_at values.now known.now [] end (said_by named (items_from front 0 block.now)) }
+    ensures { result ≡ conflict_before values.now known.now end (said_by named (items_from front 0 block.now)) }
 {
     let mut found = end;
     let mut base: u32 = 0;
@@ -145,5 +145,5 @@ pub(crate) fn first_conflict(
         found = found.min(w.place);
         base = w.next;
     }
-    found
+    (found < end).then_some(found)
 }

@@ -28,8 +28,7 @@ pub fn hear(
         Ok(_) => block.len(),
         Err(stop) => stop.place as usize,
     };
-    let conflict = conflicts::first_conflict(block, named, end, values, known);
-    if conflict < end {
+    if let Some(conflict) = conflicts::first_conflict(block, named, end, values, known) {
         return Err(Refusal {
             number: 22,
             place: conflict as u64,

@@ -33,15 +33,9 @@ fn whole_number(s: &[u8]) -> Option<u64>
 fn literal_for(negative: bool, size: u64) -> Result<Option<Lit>, TokenFault>
     ensures { said_token result ≡ literal_for negative size }
 {
-    let Some(number) = FileNumber::of_digits(size) else {
-        return Err(TokenFault::Beyond);
-    };
-    let Some(variable) = Var::of_file(number, FIRST) else {
-        return Err(TokenFault::Beyond);
-    };
-    let Some(literal) = variable.lit(negative) else {
-        return Err(TokenFault::Beyond);
-    };
+    let number = FileNumber::of_digits(size).ok_or(TokenFault::Beyond)?;
+    let variable = Var::of_file(number, FIRST).ok_or(TokenFault::Beyond)?;
+    let literal = variable.lit(negative).ok_or(TokenFault::Beyond)?;
     Ok(Some(literal))
 }
 

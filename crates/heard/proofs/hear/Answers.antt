@@ -18,16 +18,15 @@ module _ (c : Joined-surveyed) where
     | in-Err w ↦ w.end-is ∙ sym (ap (end_by (length c.args.block.now)) w.in-Err.is)
   ]
 
-pub first_conflict-conflict-requires : goal.first_conflict-conflict-requires
-first_conflict-conflict-requires c = found_below _ _ c.args.kept c.args.values.now c.args.known.now _ c.survey-surveyed.ensures _ (ends c)
+pub first_conflict-requires : goal.first_conflict-requires
+first_conflict-requires c = found_below _ _ c.args.kept c.args.values.now c.args.known.now _ c.survey-surveyed.ensures _ (ends c)
 
-pub returns-then-conflict-end : goal.returns-then-conflict-end
-returns-then-conflict-end c =
+pub returns-in-Some : goal.returns-in-Some
+returns-in-Some c =
     sym (ap (new_length c.args.kept)
-    (found-conflict _ _ _ _ _ _ c.survey-surveyed.ensures _ (ends (goal.at.returns-then-conflict-end c).Joined-surveyed) _ c.first_conflict-conflict.ensures c.if-conflict-end.true))
+    (found-conflict _ _ _ _ _ _ c.survey-surveyed.ensures _ (ends (goal.at.returns-in-Some c).Joined-surveyed) _ c.in-Some.ensures))
 
 pub returns : goal.returns
 returns c =
     let j = (goal.at.returns c).Joined-surveyed in
-    ap said_length (same j)
-    ∙ found_fine _ _ _ _ _ _ c.survey-surveyed.ensures _ (ends j) _ c.first_conflict-conflict.ensures c.if-conflict-end.false
+    ap said_length (same j) ∙ found_fine _ _ _ _ _ _ c.survey-surveyed.ensures _ (ends j) (sym c.in_default.is ∙ c.first_conflict.ensures)

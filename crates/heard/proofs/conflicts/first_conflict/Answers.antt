@@ -1,6 +1,10 @@
 -- `heard::conflicts::first_conflict` meets its contract: the loop has found the first conflict of the variables below
 -- the next window (`Searched`, proofs/Searching.antt). The measure is what is left of the indexes. Assumes nothing.
+use Prim.Native.Nat.{ℕ}
+use mathlib.Core.Path.{ap, ◌∙◌}
 use native.Mathlib.Omega.{arith}
+use lib.Dec.{ltb}
+use Rattle.std.specs.Bool.{then_some}
 use Rattle.heard.proofs.Searching.{searched-start, searched-end, searched-less, searched-on}
 use Rattle.heard.proofs.conflicts.first_conflict.Goals as goal
 
@@ -22,4 +26,6 @@ loop-base-preserved c =
 
 pub returns : goal.returns
 returns c =
-    searched-end _ _ _ _ _ c.requires _ _ c.loop-base.invariant (omega (arith, c.loop-base-test.false))
+    c.then_some.ensures
+    ∙ ap (λ (p : ℕ). then_some (ltb p c.args.end) p)
+    (searched-end _ _ _ _ _ c.requires _ _ c.loop-base.invariant (omega (arith, c.loop-base-test.false)))
