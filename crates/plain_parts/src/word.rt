@@ -27,7 +27,8 @@ pub struct Lanes {
     pub taken: usize,
 }
 
-// The four bytes at the front.
+// The four bytes at the front. By hand: `from_le_bytes` takes an array, which a slice becomes only by a conversion that
+// may fail.
 fn first_half(s: &[u8]) -> u64
     requires { 4 ≤ length s.now }
     ensures { Loaded s.now 4 result }

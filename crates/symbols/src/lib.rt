@@ -34,7 +34,14 @@ pub fn begins(c: Class) -> Beginning
         Class::Digit | Class::Sign => Beginning::Constraint,
         Class::Star => Beginning::Comment,
         Class::LetterM => Beginning::Objective,
-        _ => Beginning::Nothing,
+        Class::Blank
+        | Class::Cr
+        | Class::Lf
+        | Class::Semicolon
+        | Class::Tilde
+        | Class::LetterX
+        | Class::Operator
+        | Class::Other => Beginning::Nothing,
     }
 }
 
