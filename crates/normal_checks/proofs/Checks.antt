@@ -1,6 +1,6 @@
 -- The first walk: what is answered of a row's terms, and rows passed with the terms that they need.
 use mathlib.Core.Path.{◌≡◌, refl, sym, ap, ◌∙◌}
-use mathlib.Core.Bool.{true, false}
+use mathlib.Core.Bool.{Bool, true, false}
 use mathlib.Core.List.{List, [], ◌∷◌, ◌++◌}
 use Prim.Native.Nat.{ℕ, ◌+◌, ◌≤◌, ◌<◌}
 use native.Mathlib.Omega.{arith}
@@ -18,7 +18,9 @@ use Rattle.term_checks.specs.TermTests.{codes_indexed, weight_sizes}
 use Rattle.columns.proofs.EntryLaws.{entry_at, entries_from, entries-end}
 use Rattle.columns.specs.Kinds.{read_kind}
 use Rattle.columns.proofs.KindNumbers.{line-by-terms}
-use Rattle.shifts.specs.Shifts.{weight_rises, shift_by}
+use Rattle.shifts.specs.Shifts.{weight_rises, shift_by, shift_of}
+use Rattle.shifts.proofs.Rises.{shift-whole}
+use Rattle.definitions.specs.declared.Kind.{Kind}
 use Rattle.normal_checks.specs.FirstWalk.{terms_checked, normal_of, term_count, normal_rows, totals_needed}
 use Rattle.definitions.proofs.Columns.{terms-snoc}
 use Rattle.definitions.proofs.Columns.{Passed, passed_none, passed-all, passed-refused, passed-more}
@@ -43,6 +45,14 @@ module _ (k : ℕ) (b : ℤ) (ws : List ℤ) (cs : List ℕ) where
       pub terms-accepted : in_i64 (b +ℤ shift_by (read_kind k) (weight_rises ws)) ≡ true → accept (length ws) ≡ terms_checked k b ws cs
       unfolding terms_checked
       terms-accepted f = rw (i, le-leb (weight_sizes ws) weight_limit h, f)
+
+-- the bound with what is added to it, as the code has them
+pub bound-tested : (r : Bool) (k : ℕ) (κ : Kind) (b z : ℤ) (ws : List ℤ) → κ ≡ read_kind k → z ≡ shift_of κ ws
+    → weight_sizes ws ≤ weight_limit → r ≡ in_i64 (b +ℤ z) → r ≡ in_i64 (b +ℤ shift_by (read_kind k) (weight_rises ws))
+bound-tested r k κ b z ws e f h g =
+    let q : z ≡ shift_by (read_kind k) (weight_rises ws) =
+    f ∙ ap (λ (x : Kind). shift_of x ws) e ∙ shift-whole (read_kind k) ws h in
+    g ∙ ap (λ (x : ℤ). in_i64 (b +ℤ x)) q
 
 -- an entry's terms are in two of the columns
 pub normal-of : (t : Table) (e : Entry) → normal_in t e ≡ normal_of e t.weights t.literals

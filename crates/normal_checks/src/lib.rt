@@ -3,37 +3,29 @@
 // Assumes nothing.
 #![tactic(auto)]
 
-ghost use Rattle.std.specs.Prelude.{◌≡◌, ◌+◌};
+ghost use Rattle.std.specs.Prelude.{◌≡◌};
 ghost use Rattle.definitions.specs.Answers.{said_counted};
 ghost use Rattle.definitions.specs.Normal.{normalising};
-ghost use Rattle.definitions.specs.Refusal.{needed};
 ghost use Rattle.definitions.specs.Table.{table, counted};
 ghost use Rattle.normal_checks.specs.FirstWalk.{terms_checked, normal_of, term_count, normal_rows, totals_needed, totals_within};
 ghost use Rattle.normal_checks.specs.Said.{said_row};
 
-use definitions::{COMMENT, OBJECTIVE, Refusal, Totals, WEIGHT_LIMIT};
-
-// The count of terms of a row, or the number of its refusal.
-#[derive(Drop)]
-pub enum RowCheck {
-    Accepted(usize),
-    Refused(u8),
-}
+use definitions::{COMMENT, Fault, OBJECTIVE, Refusal, Totals, WEIGHT_LIMIT};
 
 // A row of a read kind, whose terms lie in their columns: the rest of 11, then 8.
-fn check_terms(kind: u8, bound: i64, weights: &[i64], literals: &[u32]) -> RowCheck
+fn check_terms(kind: u8, bound: i64, weights: &[i64], literals: &[u32]) -> Result<usize, Fault>
     ensures { said_row result ≡ terms_checked kind bound weights.now literals.now }
 {
     if !term_checks::indexed_of(literals) {
-        return RowCheck::Refused(11);
+        return Err(Fault { number: 11 });
     }
     if term_checks::sizes_of(weights) > WEIGHT_LIMIT {
-        return RowCheck::Refused(8);
+        return Err(Fault { number: 8 });
     }
     if !fits::sum_fits(bound, shifts::shift_of(kinds::read_kind(kind), weights)) {
-        return RowCheck::Refused(8);
+        return Err(Fault { number: 8 });
     }
-    RowCheck::Accepted(weights.len())
+    Ok(weights.len())
 }
 
 // An entry of the table. A comment is accepted as it is; a kind that the reader does not give is a "row that no table
@@ -45,28 +37,21 @@ fn check_row(
     bound: i64,
     weights: &[i64],
     literals: &[u32],
-) -> RowCheck
+) -> Result<usize, Fault>
     ensures { said_row result ≡ term_count (normal_of (record { kind = kind; first = first; count = count; bound = bound }) weights.now literals.now) }
 {
     if kind == COMMENT {
-        return RowCheck::Accepted(0);
+        return Ok(0);
     }
     if kind > OBJECTIVE {
-        return RowCheck::Refused(11);
+        return Err(Fault { number: 11 });
     }
     let room = columns::term_room(weights, literals);
     if !columns::in_column(first, count, room) {
-        return RowCheck::Refused(11);
+        return Err(Fault { number: 11 });
     }
     let end = first + count;
     check_terms(kind, bound, &weights[first..end], &literals[first..end])
-}
-
-// A needed count and n more. Rows may share terms, so a count can pass 64 bits.
-fn add_needed(count: usize, n: usize) -> usize
-    ensures { result ≡ needed (count + n) }
-{
-    lengths::add_needed(count as u64, n as u64) as usize
 }
 
 fn refused(number: u8, place: usize) -> Result<Totals, Refusal>
@@ -91,17 +76,19 @@ fn count_rows(
 {
     let rows = columns::row_room(kinds, firsts, counts, bounds);
     let mut terms: usize = 0;
-    let mut i: usize = 0;
-    while i < rows {
-        match check_row(kinds[i], firsts[i], counts[i], bounds[i], weights, literals) {
-            RowCheck::Refused(number) => {
-                return refused(number, i);
-            }
-            RowCheck::Accepted(n) => {
-                terms = add_needed(terms, n);
-            }
+    for row in 0..rows {
+        match check_row(
+            kinds[row],
+            firsts[row],
+            counts[row],
+            bounds[row],
+            weights,
+            literals,
+        ) {
+            // Rows may share terms, so a count can pass 64 bits.
+            Ok(n) => terms = terms.saturating_add(n),
+            Err(fault) => return refused(fault.number, row),
         }
-        i += 1;
     }
     Ok(Totals { rows, terms })
 }
