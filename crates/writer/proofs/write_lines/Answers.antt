@@ -1,16 +1,11 @@
 -- `write_lines` meets its contract: each turn writes one row (`Lining`, proofs/Lining.antt).
 use native.Mathlib.Omega.{arith}
 use borrow.Author.Rules.{rules}
-use mathlib.Core.Path.{◌≡◌, ap}
-use lib.IntN.{ℤ, pos}
+use lib.IntN.{pos}
 use lib.ListN.{get_or}
 use mir.Syntax.{w64}
 use mir.Val.{SFits}
 use mir.Facts.{to_z-of_z}
-use Rattle.definitions.specs.Table.{table}
-use Rattle.printed.specs.Rows.{entry_of, on_columns}
-use Rattle.writer.specs.Entries.{entry_text}
-use Rattle.laws.proofs.Puts.{puts-as}
 use Rattle.writer.proofs.Lining.{ready-as, lining-none, lining-ready, lining-more, lining-all}
 use Rattle.writer.proofs.write_lines.Goals as goal
 
