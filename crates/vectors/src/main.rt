@@ -26,58 +26,36 @@ ghost use Rattle.std.specs.Prelude.{◌≡◌, ◌<◌, ◌≤◌, length};
 
 use std::io;
 use std::io::Write;
-
-// The place behind the line that begins at `at`.
-fn line_end(s: &[u8], at: usize) -> usize
-    requires { at < length s.now }
-    ensures { (at < result) × (result ≤ length s.now) }
-{
-    let mut i = at;
-    while i < s.len() {
-        if s[i] == b'\n' {
-            return i + 1;
-        }
-        i += 1;
-    }
-    i
-}
+use vectors_words::Words;
 
 // Whether the line is a case, which is then run.
 fn is_case<W: Write>(output: &mut W, line: &[u8]) -> io::Result<bool> {
-    if line.len() < 2 {
+    let [command, b' ', rest @ ..] = line else {
         return Ok(false);
-    }
-    if line[1] != b' ' {
-        return Ok(false);
-    }
-    let command = line[0];
-    match command {
-        b's' => vectors_codes::symbol_case(output, line),
-        b't' => vectors_texts::text_case(output, line),
-        b'p' => vectors_texts::print_case(output, line),
-        b'v' => vectors_blocks::block_case(output, line),
-        b'r' => vectors_files::read_case(output, line),
-        _ => vectors_tables::table_case(output, command, line),
+    };
+    let words = Words::new(rest);
+    match *command {
+        b's' => vectors_codes::symbol_case(output, words),
+        b't' => vectors_texts::text_case(output, words),
+        b'p' => vectors_texts::print_case(output, words),
+        b'v' => vectors_blocks::block_case(output, words),
+        b'r' => vectors_files::read_case(output, words),
+        _ => vectors_tables::table_case(output, *command, words),
     }
 }
 
 fn run_case<W: Write>(output: &mut W, line: &[u8], number: usize) -> io::Result<()> {
     vectors_shown::say(output, b"=")?;
     if !is_case(output, line)? {
-        vectors_shown::say(output, b" bad case")?;
-        vectors_shown::say_size(output, number)?;
+        write!(output, " bad case {number}")?;
     }
     vectors_shown::say(output, b"\n")
 }
 
+// Each line ends behind its LF, the last one also where it has none.
 fn run_cases<W: Write>(output: &mut W, s: &[u8]) -> io::Result<()> {
-    let mut at: usize = 0;
-    let mut number: usize = 0;
-    while at < s.len() {
-        let end = line_end(s, at);
-        number += 1;
-        run_case(output, &s[at..end], number)?;
-        at = end;
+    for (before, line) in s.split_inclusive(|&b| b == b'\n').enumerate() {
+        run_case(output, line, before + 1)?;
     }
     Ok(())
 }

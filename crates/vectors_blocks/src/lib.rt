@@ -2,19 +2,19 @@
 // nothing.
 #![tactic(auto)]
 
+ghost use Rattle.std.specs.Prelude.{◌≤◌, length, IfSome};
+
 use definitions::Refusal;
 use std::io;
 use std::io::Write;
-use vectors_columns::{ROOM, WORDS};
-use vectors_shown::{say, say_refusal, say_size, say_words};
+use vectors_columns::{ROOM, WORDS, column};
+use vectors_shown::{say_each, say_refusal};
+use vectors_words::Words;
 
-fn show<W: Write>(output: &mut W, r: Result<usize, Refusal>) -> io::Result<()> {
-    match r {
-        Err(why) => say_refusal(output, why.number, why.place),
-        Ok(after) => {
-            say(output, b" length")?;
-            say_size(output, after)
-        }
+fn show<W: Write>(output: &mut W, answer: Result<usize, Refusal>) -> io::Result<()> {
+    match answer {
+        Ok(after) => write!(output, " length {after}"),
+        Err(why) => say_refusal(output, why),
     }
 }
 
@@ -26,42 +26,55 @@ fn read<W: Write>(
     known: &mut [u64],
 ) -> io::Result<()> {
     show(output, values::read_values(block, length, values, known))?;
-    say_words(output, values)?;
-    say_words(output, known)
+    say_each(output, values)?;
+    say_each(output, known)
 }
 
-// The two rows of words stand from `at` on.
-fn rows_case<W: Write>(
-    output: &mut W,
-    line: &[u8],
-    at: usize,
-    block: &[u8],
+// The length of such a case, and how many bytes and words it has at the front of each buffer; or none.
+#[derive(Clone, Copy)]
+struct Block {
     length: u64,
-) -> io::Result<bool> {
+    bytes: usize,
+    values: usize,
+    known: usize,
+}
+
+fn block_of(
+    mut words: Words<'_>,
+    block: &mut [u8],
+    values: &mut [u64],
+    known: &mut [u64],
+) -> Option<Block>
+    ensures bytes { IfSome result (λ b. b.bytes ≤ length block.new) }
+    ensures values { IfSome result (λ b. b.values ≤ length values.new) }
+    ensures known { IfSome result (λ b. b.known ≤ length known.new) }
+{
+    let found = Block {
+        length: words.natural(u64::MAX)?,
+        bytes: column(&mut words, block)?,
+        values: column(&mut words, values)?,
+        known: column(&mut words, known)?,
+    };
+    words.is_end().then_some(found)
+}
+
+// Whether the words are such a case, which is then run.
+pub fn block_case<W: Write>(output: &mut W, words: Words<'_>) -> io::Result<bool> {
+    let mut block = [0u8; ROOM];
     let mut values = [0u64; WORDS];
     let mut known = [0u64; WORDS];
-    let v = vectors_columns::words_at(line, at, &mut values);
-    let k = vectors_columns::words_at(line, v.next, &mut known);
-    if k.next != line.len() {
+    let Some(found) = block_of(words, &mut block, &mut values, &mut known) else {
         return Ok(false);
-    }
-    let held = v.count;
-    let told = k.count;
+    };
+    let n = found.bytes;
+    let held = found.values;
+    let told = found.known;
     read(
         output,
-        block,
-        length,
+        &block[0..n],
+        found.length,
         &mut values[0..held],
         &mut known[0..told],
     )?;
     Ok(true)
-}
-
-// Whether the line is such a case, which is then run.
-pub fn block_case<W: Write>(output: &mut W, line: &[u8]) -> io::Result<bool> {
-    let mut block = [0u8; ROOM];
-    let length = vectors_words::natural_at(line, 2, 18_446_744_073_709_551_615);
-    let b = vectors_columns::bytes_at(line, length.next, &mut block);
-    let n = b.count;
-    rows_case(output, line, b.next, &block[0..n], length.value)
 }

@@ -5,7 +5,8 @@ use definitions::{Beginning, Class};
 use literals::{FileNumber, Lit, Var};
 use std::io;
 use std::io::Write;
-use vectors_shown::{say, say_code, say_whether};
+use vectors_shown::{say, say_number, say_whether};
+use vectors_words::Words;
 
 fn class_mark(c: Class) -> u8 {
     match c {
@@ -42,51 +43,38 @@ fn show_byte<W: Write>(output: &mut W, b: u8) -> io::Result<()> {
     say(output, &marks)
 }
 
-fn show_number<W: Write>(output: &mut W, r: Option<FileNumber>) -> io::Result<()> {
-    match r {
-        Some(n) => say_code(output, n.number()),
-        None => say(output, b" refused"),
-    }
-}
-
-fn show_variable<W: Write>(output: &mut W, r: Option<Var>) -> io::Result<()> {
-    match r {
-        Some(v) => say_code(output, v.index()),
-        None => say(output, b" refused"),
-    }
-}
-
-fn show_code<W: Write>(output: &mut W, r: Option<Lit>) -> io::Result<()> {
-    match r {
-        Some(l) => say_code(output, l.code()),
+// A number, where it stands for something.
+fn show_said<W: Write>(output: &mut W, number: Option<u32>) -> io::Result<()> {
+    match number {
+        Some(n) => say_number(output, n),
         None => say(output, b" refused"),
     }
 }
 
 // A number of a file.
 fn show_file<W: Write>(output: &mut W, size: u64, first: u32) -> io::Result<()> {
-    let r = FileNumber::of_digits(size);
-    show_number(output, r)?;
-    let Some(number) = r else {
-        return Ok(());
+    let Some(number) = FileNumber::of_digits(size) else {
+        return show_said(output, None);
     };
-    show_variable(output, Var::of_file(number, first))
+    say_number(output, number.number())?;
+    show_said(output, Var::of_file(number, first).map(|v| v.index()))
 }
 
 // An index.
 fn show_index<W: Write>(output: &mut W, index: u32, first: u32) -> io::Result<()> {
-    show_number(output, FileNumber::of(Var::of_index(index), first))?;
-    show_code(output, Var::of_index(index).pos_lit())?;
-    show_code(output, Var::of_index(index).neg_lit())?;
-    show_code(output, Var::of_index(index).lit(true))
+    let variable = Var::of_index(index);
+    show_said(output, FileNumber::of(variable, first).map(|n| n.number()))?;
+    show_said(output, variable.pos_lit().map(|l| l.code()))?;
+    show_said(output, variable.neg_lit().map(|l| l.code()))?;
+    show_said(output, variable.lit(true).map(|l| l.code()))
 }
 
 // A code.
 fn show_literal<W: Write>(output: &mut W, l: Lit) -> io::Result<()> {
     say_whether(output, l.is_neg())?;
     say_whether(output, l.is_pos())?;
-    say_code(output, l.var().index())?;
-    say_code(output, l.negated().code())
+    say_number(output, l.var().index())?;
+    say_number(output, l.negated().code())
 }
 
 // What is no index and no code, or no byte, is shown up to there.
@@ -103,13 +91,18 @@ fn show<W: Write>(output: &mut W, size: u64, first: u32) -> io::Result<()> {
     show_byte(output, size as u8)
 }
 
-// Whether the line is such a case, which is then run.
-pub fn symbol_case<W: Write>(output: &mut W, line: &[u8]) -> io::Result<bool> {
-    let n = vectors_words::natural_at(line, 2, 18_446_744_073_709_551_615);
-    let first = vectors_words::natural_at(line, n.next, 4_294_967_295);
-    if first.next != line.len() {
+// The number and the first index of such a case, or none.
+fn case_of(mut words: Words<'_>) -> Option<(u64, u32)> {
+    let n = words.natural(u64::MAX)?;
+    let first = words.natural(4_294_967_295)?;
+    words.is_end().then_some((n, first as u32))
+}
+
+// Whether the words are such a case, which is then run.
+pub fn symbol_case<W: Write>(output: &mut W, words: Words<'_>) -> io::Result<bool> {
+    let Some((n, first)) = case_of(words) else {
         return Ok(false);
-    }
-    show(output, n.value, first.value as u32)?;
+    };
+    show(output, n, first)?;
     Ok(true)
 }

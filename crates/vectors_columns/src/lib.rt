@@ -2,9 +2,9 @@
 // Assumes nothing.
 #![tactic(auto)]
 
-ghost use Rattle.std.specs.Prelude.{◌≤◌, length};
+ghost use Rattle.std.specs.Prelude.{◌≤◌, length, IfSome};
 
-use vectors_words::{integer_at, natural_at};
+use vectors_words::Words;
 
 // Room for the entries of a column. One that has more is wrong.
 pub const ROOM: usize = 512;
@@ -12,90 +12,59 @@ pub const ROOM: usize = 512;
 // Room for words of variables.
 pub const WORDS: usize = 8;
 
+// What a column may hold.
+pub trait Entry: Copy {
+    fn entry(words: &mut Words<'_>) -> Option<Self>;
+}
+
+impl Entry for u8 {
+    fn entry(words: &mut Words<'_>) -> Option<u8> {
+        Some(words.natural(255)? as u8)
+    }
+}
+
+impl Entry for u32 {
+    fn entry(words: &mut Words<'_>) -> Option<u32> {
+        Some(words.natural(4_294_967_295)? as u32)
+    }
+}
+
+impl Entry for u64 {
+    fn entry(words: &mut Words<'_>) -> Option<u64> {
+        words.natural(u64::MAX)
+    }
+}
+
+impl Entry for usize {
+    fn entry(words: &mut Words<'_>) -> Option<usize> {
+        Some(words.natural(u64::MAX)? as usize)
+    }
+}
+
+impl Entry for i64 {
+    fn entry(words: &mut Words<'_>) -> Option<i64> {
+        words.integer()
+    }
+}
+
 // How many entries were filled.
-#[derive(Drop)]
-pub struct Column {
-    pub count: usize,
-    pub next: usize,
+pub fn column<T: Entry>(words: &mut Words<'_>, out: &mut [T]) -> Option<usize>
+    ensures { IfSome result (λ count. count ≤ length out.new) }
+{
+    let count = words.natural(out.len() as u64)? as usize;
+    for entry in &mut out[..count] {
+        *entry = T::entry(words)?;
+    }
+    Some(count)
 }
 
-pub fn bytes_at(line: &[u8], at: usize, out: &mut [u8]) -> Column
-    ensures { result.count ≤ length out.new }
-{
-    let n = natural_at(line, at, out.len() as u64);
-    let count = n.value as usize;
-    let mut next = n.next;
-    let mut k: usize = 0;
-    while k < count {
-        let w = natural_at(line, next, 255);
-        out[k] = w.value as u8;
-        next = w.next;
-        k += 1;
-    }
-    Column { count, next }
-}
-
-pub fn sizes_at(line: &[u8], at: usize, out: &mut [usize]) -> Column
-    ensures { result.count ≤ length out.new }
-{
-    let n = natural_at(line, at, out.len() as u64);
-    let count = n.value as usize;
-    let mut next = n.next;
-    let mut k: usize = 0;
-    while k < count {
-        let w = natural_at(line, next, 18_446_744_073_709_551_615);
-        out[k] = w.value as usize;
-        next = w.next;
-        k += 1;
-    }
-    Column { count, next }
-}
-
-pub fn integers_at(line: &[u8], at: usize, out: &mut [i64]) -> Column
-    ensures { result.count ≤ length out.new }
-{
-    let n = natural_at(line, at, out.len() as u64);
-    let count = n.value as usize;
-    let mut next = n.next;
-    let mut k: usize = 0;
-    while k < count {
-        let w = integer_at(line, next);
-        let value = w.value;
-        out[k] = value;
-        next = w.next;
-        k += 1;
-    }
-    Column { count, next }
-}
-
-pub fn codes_at(line: &[u8], at: usize, out: &mut [u32]) -> Column
-    ensures { result.count ≤ length out.new }
-{
-    let n = natural_at(line, at, out.len() as u64);
-    let count = n.value as usize;
-    let mut next = n.next;
-    let mut k: usize = 0;
-    while k < count {
-        let w = natural_at(line, next, 4_294_967_295);
-        out[k] = w.value as u32;
-        next = w.next;
-        k += 1;
-    }
-    Column { count, next }
-}
-
-pub fn words_at(line: &[u8], at: usize, out: &mut [u64]) -> Column
-    ensures { result.count ≤ length out.new }
-{
-    let n = natural_at(line, at, out.len() as u64);
-    let count = n.value as usize;
-    let mut next = n.next;
-    let mut k: usize = 0;
-    while k < count {
-        let w = natural_at(line, next, 18_446_744_073_709_551_615);
-        out[k] = w.value;
-        next = w.next;
-        k += 1;
-    }
-    Column { count, next }
+// The columns of a case's table.
+#[derive(Clone, Copy)]
+pub struct Table<'a> {
+    pub kinds: &'a [u8],
+    pub firsts: &'a [usize],
+    pub counts: &'a [usize],
+    pub bounds: &'a [i64],
+    pub weights: &'a [i64],
+    pub literals: &'a [u32],
 }

@@ -2,23 +2,21 @@
 // case says. Assumes nothing.
 #![tactic(auto)]
 
+ghost use Rattle.std.specs.Prelude.{◌≤◌, length, IfSome};
+
 use definitions::Options;
 use std::io;
 use std::io::Write;
-use vectors_columns::ROOM;
+use vectors_columns::{ROOM, column};
 use vectors_shown::{say_counted, say_table};
+use vectors_words::Words;
 
 // Into columns of so many entries, which are 7 before.
 fn read<W: Write>(
     output: &mut W,
     file: &[u8],
-    first: u32,
-    k: u8,
-    f: u8,
-    n: u8,
-    b: u8,
-    w: u8,
-    l: u8,
+    options: Options,
+    sizes: [u8; 6],
 ) -> io::Result<()> {
     let mut kinds = [7u8; 256];
     let mut firsts = [7usize; 256];
@@ -26,6 +24,7 @@ fn read<W: Write>(
     let mut bounds = [7i64; 256];
     let mut weights = [7i64; 256];
     let mut literals = [7u32; 256];
+    let [k, f, n, b, w, l] = sizes;
     let lentkinds = &mut kinds[0..k as usize];
     let lentfirsts = &mut firsts[0..f as usize];
     let lentcounts = &mut counts[0..n as usize];
@@ -34,7 +33,7 @@ fn read<W: Write>(
     let lentliterals = &mut literals[0..l as usize];
     let answer = reader::parse_opb_data(
         file,
-        Options { first },
+        options,
         lentkinds,
         lentfirsts,
         lentcounts,
@@ -54,27 +53,27 @@ fn read<W: Write>(
     )
 }
 
-// Whether the line is such a case, which is then run.
-pub fn read_case<W: Write>(output: &mut W, line: &[u8]) -> io::Result<bool> {
+// The first index of such a case, with how many bytes its file has at the front of the buffer; or none.
+fn file_of(
+    mut words: Words<'_>,
+    sizes: &mut [u8; 6],
+    file: &mut [u8],
+) -> Option<(Options, usize)>
+    ensures { IfSome result (λ f. f.1 ≤ length file.new) }
+{
+    column(&mut words, sizes)?;
+    let first = words.natural(4_294_967_295)? as u32;
+    let n = column(&mut words, file)?;
+    words.is_end().then_some((Options { first }, n))
+}
+
+// Whether the words are such a case, which is then run.
+pub fn read_case<W: Write>(output: &mut W, words: Words<'_>) -> io::Result<bool> {
     let mut sizes = [0u8; 6];
     let mut file = [0u8; ROOM];
-    let s = vectors_columns::bytes_at(line, 2, &mut sizes);
-    let first = vectors_words::natural_at(line, s.next, 4_294_967_295);
-    let f = vectors_columns::bytes_at(line, first.next, &mut file);
-    if f.next != line.len() {
+    let Some((options, n)) = file_of(words, &mut sizes, &mut file) else {
         return Ok(false);
-    }
-    let n = f.count;
-    read(
-        output,
-        &file[0..n],
-        first.value as u32,
-        sizes[0],
-        sizes[1],
-        sizes[2],
-        sizes[3],
-        sizes[4],
-        sizes[5],
-    )?;
+    };
+    read(output, &file[0..n], options, sizes)?;
     Ok(true)
 }

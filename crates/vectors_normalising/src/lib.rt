@@ -3,7 +3,9 @@
 
 use std::io;
 use std::io::Write;
+use vectors_columns::Table;
 use vectors_shown::{say_counted, say_table};
+use vectors_words::Words;
 
 // Into columns of unequal length, whose entries are 9 before: four kinds, bounds and weights, three counts, so many
 // firsts and literals.
@@ -11,12 +13,7 @@ fn normalise<W: Write>(
     output: &mut W,
     rows: usize,
     terms: usize,
-    kinds: &[u8],
-    firsts: &[usize],
-    counts: &[usize],
-    bounds: &[i64],
-    weights: &[i64],
-    literals: &[u32],
+    table: Table<'_>,
 ) -> io::Result<()> {
     let mut outkinds = [9u8; 4];
     let mut outfirsts = [9usize; 4];
@@ -33,12 +30,12 @@ fn normalise<W: Write>(
     let lentfirsts = &mut outfirsts[0..rows];
     let lentliterals = &mut outliterals[0..terms];
     let answer = normaliser::normalise(
-        kinds,
-        firsts,
-        counts,
-        bounds,
-        weights,
-        literals,
+        table.kinds,
+        table.firsts,
+        table.counts,
+        table.bounds,
+        table.weights,
+        table.literals,
         &mut outkinds,
         lentfirsts,
         &mut outcounts,
@@ -58,33 +55,22 @@ fn normalise<W: Write>(
     )
 }
 
-// Whether the rest of the line is that of such a case, which is then run.
+// How many firsts and literals are lent in such a case, or none.
+fn asked_of(mut words: Words<'_>) -> Option<(usize, usize)> {
+    let rows = words.natural(4)?;
+    let terms = words.natural(5)?;
+    words.is_end().then_some((rows as usize, terms as usize))
+}
+
+// Whether the words are the rest of such a case, which is then run.
 pub fn normal_case<W: Write>(
     output: &mut W,
-    line: &[u8],
-    at: usize,
-    kinds: &[u8],
-    firsts: &[usize],
-    counts: &[usize],
-    bounds: &[i64],
-    weights: &[i64],
-    literals: &[u32],
+    words: Words<'_>,
+    table: Table<'_>,
 ) -> io::Result<bool> {
-    let rows = vectors_words::natural_at(line, at, 4);
-    let terms = vectors_words::natural_at(line, rows.next, 5);
-    if terms.next != line.len() {
+    let Some((rows, terms)) = asked_of(words) else {
         return Ok(false);
-    }
-    normalise(
-        output,
-        rows.value as usize,
-        terms.value as usize,
-        kinds,
-        firsts,
-        counts,
-        bounds,
-        weights,
-        literals,
-    )?;
+    };
+    normalise(output, rows, terms, table)?;
     Ok(true)
 }

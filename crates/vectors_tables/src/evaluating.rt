@@ -1,25 +1,22 @@
 // A row of a table, evaluated. Assumes nothing.
+ghost use Rattle.std.specs.Prelude.{◌≤◌, length, IfSome};
+
 use definitions::Refusal;
 use std::io;
 use std::io::Write;
-use vectors_columns::WORDS;
-use vectors_shown::{say, say_count, say_integer, say_refusal, say_whether};
+use vectors_columns::{Table, WORDS, column};
+use vectors_shown::{say, say_refusal};
+use vectors_words::Words;
 use verdicts::Evaluated;
 
 fn show_evaluated<W: Write>(output: &mut W, answer: Result<Evaluated, Refusal>) -> io::Result<()> {
     match answer {
-        Err(why) => say_refusal(output, why.number, why.place),
         Ok(Evaluated::Constraint { sum, holds, ones }) => {
-            say(output, b" sum")?;
-            say_integer(output, sum)?;
-            say_whether(output, holds)?;
-            say_count(output, ones)
+            let holds = u8::from(holds);
+            write!(output, " sum {sum} {holds} {ones}")
         }
-        Ok(Evaluated::Objective { value, ones }) => {
-            say(output, b" value")?;
-            say_integer(output, value)?;
-            say_count(output, ones)
-        }
+        Ok(Evaluated::Objective { value, ones }) => write!(output, " value {value} {ones}"),
+        Err(why) => say_refusal(output, why),
     }
 }
 
@@ -28,13 +25,16 @@ fn evaluate<W: Write>(
     row: usize,
     values: &[u64],
     known: &[u64],
-    kinds: &[u8],
-    firsts: &[usize],
-    counts: &[usize],
-    bounds: &[i64],
-    weights: &[i64],
-    literals: &[u32],
+    table: Table<'_>,
 ) -> io::Result<()> {
+    let Table {
+        kinds,
+        firsts,
+        counts,
+        bounds,
+        weights,
+        literals,
+    } = table;
     show_evaluated(
         output,
         evaluator::evaluate(
@@ -57,38 +57,38 @@ fn evaluate<W: Write>(
     )
 }
 
+// The row of such a case, and how many words it has at the front of each buffer; or none.
+#[derive(Clone, Copy)]
+struct Asked {
+    row: usize,
+    values: usize,
+    known: usize,
+}
+
+fn asked_of(mut words: Words<'_>, values: &mut [u64], known: &mut [u64]) -> Option<Asked>
+    ensures values { IfSome result (λ a. a.values ≤ length values.new) }
+    ensures known { IfSome result (λ a. a.known ≤ length known.new) }
+{
+    let asked = Asked {
+        row: words.natural(u64::MAX)? as usize,
+        values: column(&mut words, values)?,
+        known: column(&mut words, known)?,
+    };
+    words.is_end().then_some(asked)
+}
+
 pub(crate) fn evaluate_case<W: Write>(
     output: &mut W,
-    line: &[u8],
-    at: usize,
-    kinds: &[u8],
-    firsts: &[usize],
-    counts: &[usize],
-    bounds: &[i64],
-    weights: &[i64],
-    literals: &[u32],
+    words: Words<'_>,
+    table: Table<'_>,
 ) -> io::Result<bool> {
     let mut values = [0u64; WORDS];
     let mut known = [0u64; WORDS];
-    let row = vectors_words::natural_at(line, at, 18_446_744_073_709_551_615);
-    let v = vectors_columns::words_at(line, row.next, &mut values);
-    let k = vectors_columns::words_at(line, v.next, &mut known);
-    if k.next != line.len() {
+    let Some(asked) = asked_of(words, &mut values, &mut known) else {
         return Ok(false);
-    }
-    let held = v.count;
-    let told = k.count;
-    evaluate(
-        output,
-        row.value as usize,
-        &values[0..held],
-        &known[0..told],
-        kinds,
-        firsts,
-        counts,
-        bounds,
-        weights,
-        literals,
-    )?;
+    };
+    let held = asked.values;
+    let told = asked.known;
+    evaluate(output, asked.row, &values[0..held], &known[0..told], table)?;
     Ok(true)
 }

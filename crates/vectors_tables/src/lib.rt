@@ -5,42 +5,32 @@
 mod evaluating;
 mod writing;
 
+ghost use Rattle.std.specs.Prelude.{◌≤◌, length, IfSome};
+
 use std::io;
 use std::io::Write;
-use vectors_columns::ROOM;
+use vectors_columns::{ROOM, Table, column};
+use vectors_words::Words;
 
-fn columns_case<W: Write>(
+fn run<W: Write>(
     output: &mut W,
     command: u8,
-    line: &[u8],
-    at: usize,
-    kinds: &[u8],
-    firsts: &[usize],
-    counts: &[usize],
-    bounds: &[i64],
-    weights: &[i64],
-    literals: &[u32],
+    words: Words<'_>,
+    table: Table<'_>,
 ) -> io::Result<bool> {
     match command {
-        b'w' => writing::write_case(
-            output, line, at, kinds, firsts, counts, bounds, weights, literals,
-        ),
-        b'n' => vectors_normalising::normal_case(
-            output, line, at, kinds, firsts, counts, bounds, weights, literals,
-        ),
-        b'e' => evaluating::evaluate_case(
-            output, line, at, kinds, firsts, counts, bounds, weights, literals,
-        ),
+        b'w' => writing::write_case(output, words, table),
+        b'n' => vectors_normalising::normal_case(output, words, table),
+        b'e' => evaluating::evaluate_case(output, words, table),
         _ => Ok(false),
     }
 }
 
-// The columns of terms stand from `at` on.
+// The columns of terms stand behind those of rows.
 fn terms_case<W: Write>(
     output: &mut W,
     command: u8,
-    line: &[u8],
-    at: usize,
+    mut words: Words<'_>,
     kinds: &[u8],
     firsts: &[usize],
     counts: &[usize],
@@ -48,46 +38,79 @@ fn terms_case<W: Write>(
 ) -> io::Result<bool> {
     let mut weights = [0i64; ROOM];
     let mut literals = [0u32; ROOM];
-    let w = vectors_columns::integers_at(line, at, &mut weights);
-    let l = vectors_columns::codes_at(line, w.next, &mut literals);
-    let m = w.count;
-    let n = l.count;
-    columns_case(
-        output,
-        command,
-        line,
-        l.next,
+    let Some(m) = column(&mut words, &mut weights) else {
+        return Ok(false);
+    };
+    let Some(n) = column(&mut words, &mut literals) else {
+        return Ok(false);
+    };
+    let table = Table {
         kinds,
         firsts,
         counts,
         bounds,
-        &weights[0..m],
-        &literals[0..n],
-    )
+        weights: &weights[0..m],
+        literals: &literals[0..n],
+    };
+    run(output, command, words, table)
 }
 
-// Whether the line is a case over a table, which is then run.
-pub fn table_case<W: Write>(output: &mut W, command: u8, line: &[u8]) -> io::Result<bool> {
+// How many entries each column of rows has.
+#[derive(Clone, Copy)]
+struct Rows {
+    kinds: usize,
+    firsts: usize,
+    counts: usize,
+    bounds: usize,
+}
+
+// The columns of rows, each at the front of its array.
+fn rows_of(
+    words: &mut Words<'_>,
+    kinds: &mut [u8],
+    firsts: &mut [usize],
+    counts: &mut [usize],
+    bounds: &mut [i64],
+) -> Option<Rows>
+    ensures kinds { IfSome result (λ n. n.kinds ≤ length kinds.new) }
+    ensures firsts { IfSome result (λ n. n.firsts ≤ length firsts.new) }
+    ensures counts { IfSome result (λ n. n.counts ≤ length counts.new) }
+    ensures bounds { IfSome result (λ n. n.bounds ≤ length bounds.new) }
+{
+    Some(Rows {
+        kinds: column(words, kinds)?,
+        firsts: column(words, firsts)?,
+        counts: column(words, counts)?,
+        bounds: column(words, bounds)?,
+    })
+}
+
+// Whether the words are a case over a table, which is then run.
+pub fn table_case<W: Write>(
+    output: &mut W,
+    command: u8,
+    mut words: Words<'_>,
+) -> io::Result<bool> {
     let mut kinds = [0u8; ROOM];
     let mut firsts = [0usize; ROOM];
     let mut counts = [0usize; ROOM];
     let mut bounds = [0i64; ROOM];
-    let k = vectors_columns::bytes_at(line, 2, &mut kinds);
-    let f = vectors_columns::sizes_at(line, k.next, &mut firsts);
-    let n = vectors_columns::sizes_at(line, f.next, &mut counts);
-    let b = vectors_columns::integers_at(line, n.next, &mut bounds);
-    let o = k.count;
-    let p = f.count;
-    let q = n.count;
-    let r = b.count;
+    let Some(rows) = rows_of(
+        &mut words,
+        &mut kinds,
+        &mut firsts,
+        &mut counts,
+        &mut bounds,
+    ) else {
+        return Ok(false);
+    };
     terms_case(
         output,
         command,
-        line,
-        b.next,
-        &kinds[0..o],
-        &firsts[0..p],
-        &counts[0..q],
-        &bounds[0..r],
+        words,
+        &kinds[0..rows.kinds],
+        &firsts[0..rows.firsts],
+        &counts[0..rows.counts],
+        &bounds[0..rows.bounds],
     )
 }

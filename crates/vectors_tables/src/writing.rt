@@ -1,17 +1,17 @@
 // A table, written. Assumes nothing.
+ghost use Rattle.std.specs.Prelude.{◌≤◌, length, IfSome};
+
 use definitions::{Mode, Refusal};
 use std::io;
 use std::io::Write;
-use vectors_columns::ROOM;
-use vectors_shown::{say, say_bytes, say_refusal, say_size};
+use vectors_columns::{ROOM, Table, column};
+use vectors_shown::{say_each, say_refusal};
+use vectors_words::Words;
 
 fn show_written<W: Write>(output: &mut W, answer: Result<usize, Refusal>) -> io::Result<()> {
     match answer {
-        Err(why) => say_refusal(output, why.number, why.place),
-        Ok(n) => {
-            say(output, b" wrote")?;
-            say_size(output, n)
-        }
+        Ok(n) => write!(output, " wrote {n}"),
+        Err(why) => say_refusal(output, why),
     }
 }
 
@@ -21,60 +21,60 @@ fn write<W: Write>(
     mode: Mode,
     room: usize,
     text: &[u8],
-    kinds: &[u8],
-    firsts: &[usize],
-    counts: &[usize],
-    bounds: &[i64],
-    weights: &[i64],
-    literals: &[u32],
+    table: Table<'_>,
 ) -> io::Result<()> {
     let mut out = [b'.'; ROOM];
     if room > ROOM {
         return Ok(());
     }
     let lent = &mut out[0..room];
-    let answer = writer::write_opb_lines(
-        kinds, firsts, counts, bounds, weights, literals, text, mode, lent,
-    );
-    show_written(output, answer)?;
-    say_bytes(output, lent)
-}
-
-pub(crate) fn write_case<W: Write>(
-    output: &mut W,
-    line: &[u8],
-    at: usize,
-    kinds: &[u8],
-    firsts: &[usize],
-    counts: &[usize],
-    bounds: &[i64],
-    weights: &[i64],
-    literals: &[u32],
-) -> io::Result<bool> {
-    let mut text = [0u8; ROOM];
-    let first = vectors_words::natural_at(line, at, 4_294_967_295);
-    let plain = vectors_words::natural_at(line, first.next, 1);
-    let room = vectors_words::natural_at(line, plain.next, 512);
-    let t = vectors_columns::bytes_at(line, room.next, &mut text);
-    if t.next != line.len() {
-        return Ok(false);
-    }
-    let n = t.count;
-    let mode = Mode {
-        first: first.value as u32,
-        plain: plain.value == 1,
-    };
-    write(
-        output,
-        mode,
-        room.value as usize,
-        &text[0..n],
+    let Table {
         kinds,
         firsts,
         counts,
         bounds,
         weights,
         literals,
-    )?;
+    } = table;
+    let answer = writer::write_opb_lines(
+        kinds, firsts, counts, bounds, weights, literals, text, mode, lent,
+    );
+    show_written(output, answer)?;
+    say_each(output, lent)
+}
+
+// How such a case is to be written, into how much room, and the bytes of its text at the front of the buffer; or none.
+#[derive(Clone, Copy)]
+struct Asked {
+    mode: Mode,
+    room: usize,
+    bytes: usize,
+}
+
+fn asked_of(mut words: Words<'_>, text: &mut [u8]) -> Option<Asked>
+    ensures { IfSome result (λ a. a.bytes ≤ length text.new) }
+{
+    let first = words.natural(4_294_967_295)? as u32;
+    let plain = words.natural(1)? == 1;
+    let room = words.natural(512)? as usize;
+    let bytes = column(&mut words, text)?;
+    words.is_end().then_some(Asked {
+        mode: Mode { first, plain },
+        room,
+        bytes,
+    })
+}
+
+pub(crate) fn write_case<W: Write>(
+    output: &mut W,
+    words: Words<'_>,
+    table: Table<'_>,
+) -> io::Result<bool> {
+    let mut text = [0u8; ROOM];
+    let Some(asked) = asked_of(words, &mut text) else {
+        return Ok(false);
+    };
+    let n = asked.bytes;
+    write(output, asked.mode, asked.room, &text[0..n], table)?;
     Ok(true)
 }

@@ -1,112 +1,59 @@
-// A part of the program `vectors`: the numbers of a case's line. Each is read from a place on, and tells the place behind
-// the byte that ends it, a space or the line's LF. So a line is read whole where the place behind its last number is the
-// line's end. Behind a number that is not there, or not as it should be, is no place of the line, and no number is there:
-// so a line is asked once, at its end, whether it was good. Assumes nothing.
+// A part of the program `vectors`: the numbers of a case's line. Each is read at the front of what is left of the line,
+// with the byte that ends it, a space or the line's LF. So a line is read whole where nothing is left of it. Where a
+// number is not there, or not as it should be, the line is no case. Assumes nothing.
 #![tactic(auto)]
 
-ghost use Rattle.std.specs.Prelude.{◌≤◌};
+ghost use Rattle.std.specs.Prelude.{◌≤◌, IfSome};
 
-// No place of a line.
-const WRONG: usize = 18_446_744_073_709_551_615;
-
-#[derive(Drop)]
-pub struct Natural {
-    pub value: u64,
-    pub next: usize,
+// What is left of a case's line.
+#[derive(Clone, Copy)]
+pub struct Words<'a> {
+    rest: &'a [u8],
 }
 
-#[derive(Drop)]
-pub struct Integer {
-    pub value: i64,
-    pub next: usize,
-}
-
-// Behind a number of n bytes from `at` on.
-fn behind(line: &[u8], at: usize, n: usize) -> usize {
-    if at >= line.len() {
-        return WRONG;
-    }
-    if n >= line.len() - at {
-        return WRONG;
-    }
-    let end = at + n;
-    match line[end] {
-        b' ' | b'\n' => end + 1,
-        _ => WRONG,
-    }
-}
-
-// The number of a digit; 10 for any other byte.
-fn digit(b: u8) -> u64
-    ensures { result ≤ 10 }
-{
-    match b {
-        b'0'..=b'9' => (b - b'0') as u64,
-        _ => 10,
-    }
-}
-
-// A number whose digits stand from `at` up to `end`. Where one was left out, since the number is beyond 64 bits, it
-// stands at `end`, and no number ends there.
-fn ended(line: &[u8], at: usize, end: usize, value: u64, most: u64) -> Natural
-    ensures { result.value ≤ most }
-{
-    if end == at {
-        return Natural {
-            value: 0,
-            next: WRONG,
-        };
-    }
-    if value > most {
-        return Natural {
-            value: 0,
-            next: WRONG,
-        };
-    }
-    Natural {
-        value,
-        next: behind(line, end, 0),
-    }
-}
-
-// A number from 0 up to `most`.
-pub fn natural_at(line: &[u8], at: usize, most: u64) -> Natural
-    ensures { result.value ≤ most }
-{
-    let mut end = at;
+// A number of digits, and what is left behind the byte that ends it.
+fn natural_of(s: &[u8]) -> Option<(u64, &[u8])> {
     let mut value: u64 = 0;
-    while end < line.len() {
-        let d = digit(line[end]);
-        if d > 9 {
-            break;
+    for (n, &b) in s.iter().enumerate() {
+        match b {
+            b'0'..=b'9' => value = value.checked_mul(10)?.checked_add(u64::from(b - b'0'))?,
+            b' ' | b'\n' if n > 0 => return Some((value, &s[n + 1..])),
+            _ => return None,
         }
-        if value > 1_844_674_407_370_955_161 {
-            break;
-        }
-        if d > 18_446_744_073_709_551_615 - value * 10 {
-            break;
-        }
-        value = value * 10 + d;
-        end += 1;
     }
-    ended(line, at, end, value, most)
+    None
 }
 
-pub fn integer_at(line: &[u8], at: usize) -> Integer {
-    if at > line.len() {
-        return Integer {
-            value: 0,
-            next: WRONG,
-        };
+impl<'a> Words<'a> {
+    pub fn new(line: &'a [u8]) -> Words<'a> {
+        Words { rest: line }
     }
-    let Some((value, n)) = numbers::read_number(&line[at..]) else {
-        return Integer {
-            value: 0,
-            next: WRONG,
-        };
-    };
-    Integer {
-        value,
-        next: behind(line, at, n),
+
+    // Whether the line is read whole.
+    pub fn is_end(&self) -> bool {
+        self.rest.is_empty()
+    }
+
+    // A number from 0 up to `most`.
+    pub fn natural(&mut self, most: u64) -> Option<u64>
+        ensures { IfSome result (λ n. n ≤ most) }
+    {
+        let (value, rest) = natural_of(self.rest)?;
+        if value > most {
+            return None;
+        }
+        self.rest = rest;
+        Some(value)
+    }
+
+    pub fn integer(&mut self) -> Option<i64> {
+        let (value, n) = numbers::read_number(self.rest)?;
+        match self.rest.get(n) {
+            Some(b' ' | b'\n') => {
+                self.rest = &self.rest[n + 1..];
+                Some(value)
+            }
+            _ => None,
+        }
     }
 }
