@@ -12,12 +12,7 @@ use vectors_shown::{say_counted, say_table};
 use vectors_words::Words;
 
 // Into columns of so many entries, which are 7 before.
-fn read<W: Write>(
-    output: &mut W,
-    file: &[u8],
-    options: Options,
-    sizes: [u8; 6],
-) -> io::Result<()> {
+fn read<W: Write>(output: &mut W, file: &[u8], options: Options, sizes: [u8; 6]) -> io::Result<()> {
     let mut kinds = [7u8; 256];
     let mut firsts = [7usize; 256];
     let mut counts = [7usize; 256];
@@ -54,11 +49,7 @@ fn read<W: Write>(
 }
 
 // The first index of such a case, with how many bytes its file has at the front of the buffer; or none.
-fn file_of(
-    mut words: Words<'_>,
-    sizes: &mut [u8; 6],
-    file: &mut [u8],
-) -> Option<(Options, usize)>
+fn file_of(mut words: Words<'_>, sizes: &mut [u8; 6], file: &mut [u8]) -> Option<(Options, usize)>
     ensures { IfSome result (λ f. f.1 ≤ length file.new) }
 {
     column(&mut words, sizes)?;

@@ -24,10 +24,7 @@ pub fn say_refusal<W: Write>(output: &mut W, why: Refusal) -> io::Result<()> {
     write!(output, " refused {} at {}", why.number, why.place)
 }
 
-pub fn say_counted<W: Write>(
-    output: &mut W,
-    answer: Result<Totals, Refusal>,
-) -> io::Result<()> {
+pub fn say_counted<W: Write>(output: &mut W, answer: Result<Totals, Refusal>) -> io::Result<()> {
     match answer {
         Ok(found) => write!(output, " table {} {}", found.rows, found.terms),
         Err(why) => say_refusal(output, why),

@@ -86,11 +86,7 @@ fn rows_of(
 }
 
 // Whether the words are a case over a table, which is then run.
-pub fn table_case<W: Write>(
-    output: &mut W,
-    command: u8,
-    mut words: Words<'_>,
-) -> io::Result<bool> {
+pub fn table_case<W: Write>(output: &mut W, command: u8, mut words: Words<'_>) -> io::Result<bool> {
     let mut kinds = [0u8; ROOM];
     let mut firsts = [0usize; ROOM];
     let mut counts = [0usize; ROOM];
