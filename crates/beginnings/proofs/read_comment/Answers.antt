@@ -68,6 +68,6 @@ returns c =
     let e = here p in
     elim c.else-n-gt0.branch [
       | else-n-gt0-via-then-n-gt0+else-s-eq32 w ↦
-        sym (remark-plain (text e) (bytes e) (text-some e) (bytes-is e) _ (ending-is p) w.if-n-gt0.true w.if-s-eq32.false)
+          sym (remark-plain (text e) (bytes e) (text-some e) (bytes-is e) _ (ending-is p) w.if-n-gt0.true w.if-s-eq32.false)
       | else-n-gt0-via-else-n-gt0 w ↦ sym (remark-bare (text e) (bytes e) (text-some e) (bytes-is e) _ (ending-is p) (omega arith))
     ]
