@@ -9,14 +9,13 @@ use native.Mathlib.Nat.{add-zero}
 use lib.Pow.{split, mod-mod-pow}
 use lib.Bits.{bit_and, and_block, and_mask}
 use lib.ListN.{length, take, drop, set, length-append}
-use lib.Seq.{set-set, sets, sets-eq, drop-drop}
+use lib.Seq.{set-set, sets, sets-eq}
 use Rattle.definitions.specs.Number.{decimal}
 use Rattle.definitions.proofs.Numbers.{decimal-big}
 use Rattle.lengths.specs.Places.{four_digits, places_of}
 use Rattle.lengths.specs.declared.Places.{Places}
 use Rattle.lengths.proofs.DigitPlaces.{few-is}
-use Rattle.std.specs.Int.{w32, to_le_bytes, byte_at}
-use borrow.Rule.Slice.PartMut.{put_mid}
+use Rattle.outputs.specs.Print.{four_bytes}
 
 -- ---- the digits, found two at once
 
@@ -56,24 +55,26 @@ ones-left m h =
 
 -- ---- the bytes of the number that holds them
 
-pub bytes-are : (m : ℕ) → m < 10_000 → (w : ℕ)
-    → w ≡ 48 + m / 1000 + 256 * (48 + m / 100 % 10 + 256 * (48 + m / 10 % 10 + 256 * (48 + m % 10)))
-    → to_le_bytes w32 w ≡ four_digits m
-bytes-are m l w e =
-    let a : byte_at 0 w ≡ 48 + m / 1000 = omega arith in
-    let b : byte_at 1 w ≡ 48 + m / 100 % 10 = omega arith in
-    let c : byte_at 2 w ≡ 48 + m / 10 % 10 = omega arith in
-    let d : byte_at 3 w ≡ 48 + m % 10 = omega arith in
-    rw (a, b, c, d)
-
--- a part that was written over
-pub part-is : (o ds : List ℕ) (at n : ℕ) → put_mid at (at + n - at) o ds ≡ take at o ++ (ds ++ drop (at + n) o)
-part-is o ds at n = let e : at + n - at ≡ n = omega arith in rw (e, drop-drop)
+bytes : (a b c d : ℕ) → a < 256 → b < 256 → c < 256 → d < 256 → (w : ℕ) → w ≡ a + 256 * (b + 256 * (c + 256 * d))
+    → (bit_and w 255 ≡ a) × (bit_and (w / 256) 255 ≡ b) × (bit_and (w / 65536) 255 ≡ c) × (w / 16777216 ≡ d)
+bytes a b c d ha hb hc hd w e =
+    (and_mask w 8 ∙ omega arith, and_mask (w / 256) 8 ∙ omega arith, and_mask (w / 65536) 8 ∙ omega arith, omega arith)
 
 module _ (o : List ℕ) (at : ℕ) where
   -- a digit and, counted from its place, three more
-  abbrev pub stores : ℕ → ℕ → ℕ → ℕ → ℕ → ℕ → ℕ → List ℕ
+  abbrev stores : ℕ → ℕ → ℕ → ℕ → ℕ → ℕ → ℕ → List ℕ
   stores h t u a b c d = set (set (set (set o at a) (at + h) b) (at + t) c) (at + u) d
+
+  -- what the code stores: the bytes of w
+  abbrev pub stored : ℕ → ℕ → ℕ → ℕ → List ℕ
+  stored h t u w = stores h t u (bit_and w 255) (bit_and (w / 256) 255) (bit_and (w / 65536) 255) (w / 16777216)
+
+  stored_is : (m : ℕ) → m < 10_000 → (w : ℕ) → w ≡ four_bytes m → (h t u : ℕ)
+      → stored h t u w ≡ stores h t u (48 + m / 1000) (48 + m / 100 % 10) (48 + m / 10 % 10) (48 + m % 10)
+  stored_is m l w e h t u =
+      let r = bytes (48 + m / 1000) (48 + m / 100 % 10) (48 + m / 10 % 10) (48 + m % 10)
+      (omega arith) (omega arith) (omega arith) (omega arith) w e in
+      rw (r.0, r.1, r.2, r.3)
 
   second : at + 2 ≡ suc (suc at)
   second = omega arith
@@ -98,14 +99,18 @@ module _ (o : List ℕ) (at : ℕ) where
   sets-is : (ds : List ℕ) → at + length ds ≤ length o → sets o at ds ≡ take at o ++ (ds ++ drop (at + length ds) o)
   sets-is ds h = sets-eq ds o at h ∙ append_assoc (take at o) ds _
 
+  pub stored-four : (m : ℕ) → m < 10_000 → (w : ℕ) → w ≡ four_bytes m → at + 4 ≤ length o
+      → stored 1 2 3 w ≡ take at o ++ (four_digits m ++ drop (at + 4) o)
+  stored-four m l w e h = stored_is m l w e 1 2 3 ∙ all _ _ _ _ ∙ sets-is (four_digits m) h
+
 -- ---- as many digits as m has
 
 module _ (m : ℕ) (l : m < 10_000) (p : Places) (q : p ≡ places_of m) where
-  pub stored-few : (o : List ℕ) (at : ℕ) → at + length (decimal m) ≤ length o
-      → stores o at p.hundreds p.tens p.ones (48 + m / 1000) (48 + m / 100 % 10) (48 + m / 10 % 10) (48 + m % 10)
-      ≡ take at o ++ (decimal m ++ drop (at + length (decimal m)) o)
-  stored-few o at h =
-      rw q
+  pub stored-few : (o : List ℕ) (at w : ℕ) → w ≡ four_bytes m → at + length (decimal m) ≤ length o
+      → stored o at p.hundreds p.tens p.ones w ≡ take at o ++ (decimal m ++ drop (at + length (decimal m)) o)
+  stored-few o at w e h =
+      stored_is o at m l w e _ _ _
+      ∙ rw q
       (few-is (λ h t u ds. stores o at h t u (48 + m / 1000) (48 + m / 100 % 10) (48 + m / 10 % 10) (48 + m % 10) ≡ sets o at ds) m l
       (one o at _ _ _ _) (two o at _ _ _ _) (three o at _ _ _ _) (all o at _ _ _ _))
       ∙ sets-is o at (decimal m) h

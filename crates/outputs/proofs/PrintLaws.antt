@@ -1,5 +1,5 @@
 -- Laws of printing: any text that fits or does not, the digits of a number from the last ones on, a sign before them,
--- and a text that is copied.
+-- and a text byte by byte.
 use mathlib.Core.Path.{◌≡◌, refl, sym, ap, ◌∙◌}
 use mathlib.Core.Bool.{Bool, true, false, cond}
 use mathlib.Core.List.{List, [], ◌∷◌, ◌++◌, append_assoc, append-nil}
@@ -8,19 +8,19 @@ use Prim.Native.Nat.{ℕ, suc, ◌+◌, ◌-◌, ◌%◌, ◌/◌, ◌≤◌, �
 use native.Mathlib.Omega.{arith}
 use native.Mathlib.Numerals.{add-one}
 use lib.Dec.{leb}
-use borrow.Author.Tests.{le-leb, le-ltb, lt-leb, leb-true}
-use lib.ListN.{length, take, drop, set, take-append-drop}
+use borrow.Author.Tests.{le-leb, le-ltb, leb-true}
+use lib.ListN.{length, get_or, take, drop, set, length-set, take-append-drop}
 use lib.IntN.{ℤ, pos, negsuc, nat_abs}
 use lib.Signed.{lt_z}
-use lib.Seq.{length-take-le, take-append-le, take-take, drop_at, drop-length, take-suc-set, take-set-le, drop-set-lt}
-use borrow.Rule.Slice.PartMut.{put_mid}
+use lib.Seq.{length-take-le, take-append-le, take-take, drop_at, drop-length, take-length, take-suc-set, take-set-le, drop-set-lt}
+use lib.Seq.{paste, paste-zero, paste-suc}
 use Rattle.definitions.specs.Bytes.{minus}
 use Rattle.definitions.specs.Number.{decimal, integer_text}
 use Rattle.definitions.specs.Output.{put_at, put_in}
 use Rattle.definitions.proofs.Numbers.{decimal-some}
 use Rattle.lengths.specs.Places.{four_digits}
-use Rattle.outputs.specs.Print.{Prints, HasSign, signed_text}
-use Rattle.outputs.proofs.Four.{part-is, decimal-fours, decimal-length-fours}
+use Rattle.outputs.specs.Print.{Prints, signed_text}
+use Rattle.outputs.proofs.Four.{decimal-fours, decimal-length-fours}
 
 -- ---- any text
 
@@ -130,37 +130,49 @@ over-sign o at n ds h =
     let e : at + 0 ≡ at = omega arith in
     rw (e, take-set-le at o at minus (omega arith), drop-set-lt (at + n) o at minus (omega arith))
 
-signed-length : (b : Bool) (m n : ℕ) → n ≡ length (decimal m) → n + cond b 1 0 ≡ length (signed_text b m)
-signed-length true m n c = add-one n ∙ ap suc c
-signed-length false m n c = omega arith
+pub signed-counted : (b : Bool) (m k n : ℕ) → k ≡ cond b 1 0 → n ≡ length (decimal m) → n + k ≡ length (signed_text b m)
+signed-counted true m k n e c = rw e (add-one n ∙ ap suc c)
+signed-counted false m k n e c = omega arith
 
-pub signed-full : (b : Bool) (m at : ℕ) (o : List ℕ) (n : ℕ) (out : List ℕ) → n ≡ length (decimal m) → HasSign b n at o None out
-    → Prints (signed_text b m) at o None out
-signed-full b m at o n out c s =
-    rw s.1 (refused (signed_text b m) at o _ (signed-length b m n c) false (sym (lt-leb _ (length o) s.0)) refl)
-
-pub signed-done : (b : Bool) (m at : ℕ) (o : List ℕ) (n p : ℕ) (o₁ out : List ℕ) → n ≡ length (decimal m)
-    → HasSign b n at o (Some p) o₁
-    → out ≡ take p o₁ ++ (decimal m ++ drop (p + n) o₁)
-    → Prints (signed_text b m) at o (Some (p + n)) out
-signed-done true m at o n p o₁ out c s q =
-    done (minus ∷ decimal m) at o (suc n) (ap suc c) (p + n) out (omega arith) (omega arith)
-    ((rw (s.2, s.0) at q) ∙ behind-sign o at n (decimal m) (omega arith))
-signed-done false m at o n p o₁ out c s q =
-    done (decimal m) at o n c (p + n) out (omega arith) (omega arith)
-    ((rw (s.2, s.0) at q) ∙ over-sign o at n (decimal m) (omega (arith, decimal-some m)))
+pub signed-done : (b : Bool) (m at : ℕ) (o : List ℕ) (k n : ℕ) (out : List ℕ) → k ≡ cond b 1 0 → n ≡ length (decimal m)
+    → at + (n + k) ≤ length o
+    → out ≡ take (at + k) (set o at minus) ++ (decimal m ++ drop (at + k + n) (set o at minus))
+    → Prints (signed_text b m) at o (Some (at + k + n)) out
+signed-done true m at o k n out e c h q =
+    done (minus ∷ decimal m) at o (suc n) (ap suc c) (at + k + n) out (omega arith) (omega arith)
+    ((rw e at q) ∙ behind-sign o at n (decimal m) (omega arith))
+signed-done false m at o k n out e c h q =
+    done (decimal m) at o n c (at + k + n) out (omega arith) (omega arith)
+    ((rw e at q) ∙ over-sign o at n (decimal m) (omega (arith, decimal-some m)))
 
 -- what an integer's sign and size print
-integer-is : (z : ℤ) → signed_text (lt_z z (pos 0)) (nat_abs z) ≡ integer_text z
+pub integer-is : (z : ℤ) → signed_text (lt_z z (pos 0)) (nat_abs z) ≡ integer_text z
 integer-is (pos n) = rw (le-ltb n 0 (omega arith))
 integer-is (negsuc n) = refl
 
-pub sized : (z : ℤ) (m : ℕ) → m ≡ nat_abs z → signed_text (lt_z z (pos 0)) m ≡ integer_text z
-sized z m e = rw e (integer-is z)
+-- ---- a text byte by byte, from the first one on
 
--- ---- a text that was copied to its place
+-- what the walk has done after i of the bytes
+pub record Copying (text : List ℕ) (at : ℕ) (o out : List ℕ) (i : ℕ) : Type 0 where
+  pub room : at + length text ≤ length o
+  pub most : i ≤ length text
+  pub so_far : out ≡ paste o at text i
+  pub long : length out ≡ length o
 
-pub copied : (text : List ℕ) (at : ℕ) (o part : List ℕ) → at + length text ≤ length o → part ≡ text
-    → Prints text at o (Some (at + length text)) (put_mid at (at + length text - at) o part)
-copied text at o part h e =
-    done text at o (length text) refl _ _ h refl (rw e (part-is o text at (length text)))
+pub copying-none : (text : List ℕ) (at : ℕ) (o : List ℕ) → at + length text ≤ length o → Copying text at o o 0
+copying-none text at o h = record { room = h; most = omega arith; so_far = paste-zero o at text; long = refl }
+
+module _ (text : List ℕ) (at : ℕ) (o out : List ℕ) (i : ℕ) (w : Copying text at o out i) where
+  pub copying-more : i < length text → Copying text at o (set out (at + i) (get_or text i 0)) (i + 1)
+  copying-more h =
+      record {
+        room = w.room;
+        most = omega arith;
+        so_far = rw (w.so_far, add-one i) (paste-suc o at text i 0 (omega (arith, w.room)) h);
+        long = rw length-set w.long;
+      }
+
+  pub copying-all : length text ≤ i → Prints text at o (Some (at + length text)) out
+  copying-all h =
+      let e : i ≡ length text = omega (arith, w.most) in
+      done text at o (length text) refl _ out w.room refl (w.so_far ∙ rw (e, take-length text) (simp append_assoc))

@@ -1,5 +1,5 @@
 -- What the code's answer to printing says, and what a print leaves in the output.
-use Rattle.std.specs.Prelude.{◌≡◌, ℕ, ◌+◌, ◌<◌, ◌≤◌, Bool, true, false, cond, List, ◌∷◌, length, set, Option, None, Some}
+use Rattle.std.specs.Prelude.{◌≡◌, ℕ, ◌+◌, ◌*◌, ◌/◌, ◌%◌, Bool, true, false, List, ◌∷◌, Option, None, Some}
 use Rattle.definitions.specs.Bytes.{minus}
 use Rattle.definitions.specs.Number.{decimal}
 use Rattle.definitions.specs.Refusal.{Checked, refuse, accept}
@@ -20,7 +20,6 @@ abbrev pub signed_text : Bool → ℕ → List ℕ
 signed_text true m = minus ∷ decimal m
 signed_text false m = decimal m
 
--- the sign, or none, before n digits: the first digit's place, with a `-` where the sign or that digit stands
-abbrev pub HasSign : Bool → ℕ → ℕ → List ℕ → Option ℕ → List ℕ → Type 0
-HasSign negative n at o None o' = (length o < at + (n + cond negative 1 0)) × (o' ≡ o)
-HasSign negative n at o (Some p) o' = (p ≡ at + cond negative 1 0) × (p + n ≤ length o) × (o' ≡ set o at minus)
+-- the four digits of a number below 10,000 in one number, the first byte lowest
+abbrev pub four_bytes : ℕ → ℕ
+four_bytes m = 48 + m / 1000 + 256 * (48 + m / 100 % 10 + 256 * (48 + m / 10 % 10 + 256 * (48 + m % 10)))

@@ -4,7 +4,7 @@
 ghost use Rattle.std.specs.Prelude.{◌≡◌, ◌++◌, ◌+◌, ◌<◌, ◌≤◌, leb, length, take, drop};
 ghost use Rattle.definitions.specs.Number.{decimal, integer_text};
 ghost use Rattle.lengths.specs.Places.{places_of, four_digits};
-ghost use Rattle.outputs.specs.Print.{Prints, HasSign, signed_text};
+ghost use Rattle.outputs.specs.Print.{Prints, signed_text, four_bytes};
 
 use lengths::Places;
 
@@ -18,25 +18,31 @@ fn has_room(n: usize, at: usize, room: usize) -> bool
     n <= room - at
 }
 
-// The four digits of a number below 10,000, zeros in front included: pairs of digits, then digits, two of each at once.
-fn four_digits(m: u32) -> [u8; 4]
+// The four digits of a number below 10,000 as bytes, the first one lowest: pairs of digits, then digits, two of each at
+// once.
+fn four_digits(m: u32) -> u32
     requires { m < 10_000 }
-    ensures { result ≡ four_digits m }
+    ensures { result ≡ four_bytes m }
 {
     let high = m / 100;
     let low = m - 100 * high;
     let pairs = high + 65_536 * low;
     let tens = (pairs * 103 / 1_024) & 0x000f_000f;
     let ones = pairs - 10 * tens;
-    let bytes = tens + 256 * ones + 0x3030_3030;
-    bytes.to_le_bytes()
+    tens + 256 * ones + 0x3030_3030
 }
 
+// The four digits of m, zeros in front included.
+// Stores one by one: with arrays of bytes that are copied, printing a number took two to three times as long.
 fn put_four(m: u32, out: &mut [u8], at: usize)
     requires { (m < 10_000) × (at + 4 ≤ length out.old) }
     ensures { out.new ≡ take at out.old ++ (four_digits m ++ drop (at + 4) out.old) }
 {
-    out[at..at + 4].copy_from_slice(&four_digits(m));
+    let d = four_digits(m);
+    out[at] = (d & 0xff) as u8;
+    out[at + 1] = ((d >> 8) & 0xff) as u8;
+    out[at + 2] = ((d >> 16) & 0xff) as u8;
+    out[at + 3] = (d >> 24) as u8;
 }
 
 // The digits of a number below 10,000. A zero in front is written over by the digit behind it.
@@ -44,11 +50,11 @@ fn put_few(m: u32, p: Places, out: &mut [u8], at: usize)
     requires { (m < 10_000) × (p ≡ places_of m) × (at + length (decimal m) ≤ length out.old) }
     ensures { out.new ≡ take at out.old ++ (decimal m ++ drop (at + length (decimal m)) out.old) }
 {
-    let [thousands, hundreds, tens, ones] = four_digits(m);
-    out[at] = thousands;
-    out[at + p.hundreds] = hundreds;
-    out[at + p.tens] = tens;
-    out[at + p.ones] = ones;
+    let d = four_digits(m);
+    out[at] = (d & 0xff) as u8;
+    out[at + p.hundreds] = ((d >> 8) & 0xff) as u8;
+    out[at + p.tens] = ((d >> 16) & 0xff) as u8;
+    out[at + p.ones] = (d >> 24) as u8;
 }
 
 // The n digits of m, from `at` on, the last four first.
@@ -67,28 +73,19 @@ fn put_digits(m: u64, out: &mut [u8], at: usize, n: usize)
     put_few(few, lengths::places_of(few), out, at);
 }
 
-// A `-` or none, where n digits behind it have room, too: the place of the first digit.
-fn put_sign(negative: bool, n: usize, out: &mut [u8], at: usize) -> Option<usize>
-    requires { (1 ≤ n) × (n ≤ 20) }
-    ensures { HasSign negative n at out.old result out.new }
+// A `-` or none, and then the digits of m.
+fn print_long(negative: bool, m: u64, out: &mut [u8], at: usize) -> Option<usize>
+    ensures { Prints (signed_text negative m) at out.old result out.new }
 {
-    let k = negative as usize;
+    let n = lengths::count_length(m);
+    let k: usize = if negative { 1 } else { 0 };
     if !has_room(n + k, at, out.len()) {
         return None;
     }
     // Where there is no sign, the first digit takes its place.
     out[at] = b'-';
-    Some(at + k)
-}
-
-// A sign or none, and then the digits of m.
-fn print_long(negative: bool, m: u64, out: &mut [u8], at: usize) -> Option<usize>
-    ensures { Prints (signed_text negative m) at out.old result out.new }
-{
-    let n = lengths::count_length(m);
-    let first = put_sign(negative, n, out, at)?;
-    put_digits(m, out, first, n);
-    Some(first + n)
+    put_digits(m, out, at + k, n);
+    Some(at + k + n)
 }
 
 // The same for the numbers that most files have, with no loop and no branch but for the room.
@@ -98,9 +95,13 @@ fn print_few(negative: bool, m: u32, out: &mut [u8], at: usize) -> Option<usize>
 {
     let p = lengths::places_of(m);
     let n = p.ones + 1;
-    let first = put_sign(negative, n, out, at)?;
-    put_few(m, p, out, first);
-    Some(first + n)
+    let k: usize = if negative { 1 } else { 0 };
+    if !has_room(n + k, at, out.len()) {
+        return None;
+    }
+    out[at] = b'-';
+    put_few(m, p, out, at + k);
+    Some(at + k + n)
 }
 
 pub fn print_count(m: u64, out: &mut [u8], at: usize) -> Option<usize>
@@ -116,7 +117,7 @@ pub fn print_number(value: i64, out: &mut [u8], at: usize) -> Option<usize>
     ensures { Prints (integer_text value) at out.old result out.new }
 {
     let negative = value < 0;
-    let m = value.unsigned_abs();
+    let m = numbers::magnitude(value);
     if m >= 10_000 {
         return print_long(negative, m, out, at);
     }
@@ -126,10 +127,15 @@ pub fn print_number(value: i64, out: &mut [u8], at: usize) -> Option<usize>
 pub fn print_text(text: &[u8], out: &mut [u8], at: usize) -> Option<usize>
     ensures { Prints text.now at out.old result out.new }
 {
-    if !has_room(text.len(), at, out.len()) {
+    let n = text.len();
+    if !has_room(n, at, out.len()) {
         return None;
     }
-    let end = at + text.len();
-    out[at..end].copy_from_slice(text);
-    Some(end)
+    // A loop: by `copy_from_slice`, printing a short text took four times as long.
+    let mut i: usize = 0;
+    while i < n {
+        out[at + i] = text[i];
+        i += 1;
+    }
+    Some(at + n)
 }

@@ -1,7 +1,29 @@
--- `put_four` meets its contract: the digits are copied to their place (`part-is`, proofs/Four.antt).
-use Rattle.lengths.specs.Places.{four_digits}
-use Rattle.outputs.proofs.Four.{part-is}
+-- `put_four` meets its contract: the four bytes of the number that `four_digits` gives, stored one behind the other
+-- (`stored-four`, proofs/Four.antt).
+use Prim.Native.Nat.{◌/◌}
+use native.Mathlib.Omega.{arith}
+use lib.Bits.{mask_lt}
+use lib.ListN.{length-set}
+use Rattle.outputs.proofs.Four.{stored-four}
 use Rattle.outputs.proofs.put_four.Goals as goal
 
+pub overflow_cast-out : goal.overflow_cast-out
+overflow_cast-out c = omega (arith, mask_lt c.four_digits-d.result 8)
+
+pub overflow_cast-out-2 : goal.overflow_cast-out-2
+overflow_cast-out-2 c = omega (arith, mask_lt (c.four_digits-d.result / 256) 8)
+
+pub bounds-out-at-2 : goal.bounds-out-at-2
+bounds-out-at-2 c = simp length-set (omega arith)
+
+pub overflow_cast-out-3 : goal.overflow_cast-out-3
+overflow_cast-out-3 c = omega (arith, mask_lt (c.four_digits-d.result / 65536) 8)
+
+pub bounds-out-at-3 : goal.bounds-out-at-3
+bounds-out-at-3 c = simp length-set (omega arith)
+
+pub bounds-out-at-4 : goal.bounds-out-at-4
+bounds-out-at-4 c = simp length-set (omega arith)
+
 pub returns : goal.returns
-returns c = rw (c.copy_from_slice.ensures.after, c.four_digits.ensures) (part-is _ (four_digits c.args.m) _ 4)
+returns c = stored-four _ _ _ c.requires.0 _ c.four_digits-d.ensures c.requires.1
