@@ -36,11 +36,28 @@ pub fn places_of(m: u32) -> Places
     }
 }
 
+// How many powers of ten are at most m, found without a division. By `ilog10`, numbers of six digits took longer.
+fn long_length(m: u64) -> usize
+    ensures { result ≡ length (decimal m) }
+{
+    let mut n: usize = 1;
+    let mut power: u64 = 10;
+    while power <= m {
+        n += 1;
+        // The next power is beyond 64 bits.
+        if n == 20 {
+            return n;
+        }
+        power = power * 10;
+    }
+    n
+}
+
 pub fn count_length(m: u64) -> usize
     ensures { result ≡ length (decimal m) }
 {
     if m >= 10_000 {
-        return m.ilog10() as usize + 1;
+        return long_length(m);
     }
     let p = places_of(m as u32);
     p.ones + 1
