@@ -1,0 +1,23 @@
+-- The entry of a row: what the four columns of rows hold at its place.
+use mathlib.Core.Path.{◌≡◌}
+use mathlib.Core.List.{List, [], ◌∷◌}
+use Prim.Native.Nat.{ℕ, zero, suc, ◌≤◌, ◌<◌}
+use native.Mathlib.Omega.{arith}
+use lib.ListN.{drop}
+use Rattle.std.specs.Prelude.{Some, None, slice_get}
+use Rattle.std.proofs.lemmas.Option.{slice_get_past}
+use Rattle.definitions.specs.Table.{Table, row_room, entries}
+use Rattle.columns.proofs.EntryLaws.{entry_at, entries-count, entries_from}
+
+-- what stands at the front behind i items is item i
+front-got : {A : Type 0} (xs : List A) (i : ℕ) (x : A) (ys : List A) → drop i xs ≡ x ∷ ys → slice_get xs i ≡ Some x
+front-got [] zero x ys e = cc
+front-got [] (suc i) x ys e = cc
+front-got (z ∷ zs) zero x ys e = cc
+front-got (z ∷ zs) (suc i) x ys e = front-got zs i x ys e
+
+pub entry-found : (t : Table) (i : ℕ) → i < row_room t → slice_get (entries t) i ≡ Some (entry_at t i)
+entry-found t i h = front-got (entries t) i (entry_at t i) _ (entries_from t i h)
+
+pub entry-none : (t : Table) (i : ℕ) → row_room t ≤ i → slice_get (entries t) i ≡ None
+entry-none t i h = slice_get_past (entries t) i (omega (arith, entries-count t))
