@@ -16,12 +16,13 @@ use Rattle.definitions.specs.Refusal.{Checked, refuse, accept}
 use Rattle.definitions.specs.Row.{Row, Line, comment, row, sizes}
 use Rattle.definitions.specs.declared.Kind.{Kind}
 use Rattle.definitions.specs.declared.Kind.TheVariants.{AtLeast as at_least, AtMost as at_most, Equal as equal, Objective as objective}
-use Rattle.definitions.specs.Table.{Table, table, row_room, accepted, line_in, and_then}
+use Rattle.definitions.specs.Table.{Table, row_room, accepted, line_in, and_then}
 use Rattle.definitions.specs.Meaning.{Assignment, sum_of, holds, value_of, assigned, ones_of, is_known}
 use Rattle.definitions.specs.Evaluate.{Evaluated as Found, constraint, goal, covered, found_by, found, found_in, on_place}
 use Rattle.definitions.specs.Evaluate.{evaluating_by, within, evaluating, known_ones, evaluating_known}
 use Rattle.columns.proofs.EntryLaws.{entry_at, entries_from}
 use Rattle.verdicts.specs.declared.Evaluated.TheVariants.{Constraint, Objective}
+use Rattle.tables.specs.Lent.{table_of}
 use Rattle.assigned.specs.WordsSay.{looked}
 use Rattle.rows.proofs.RowAnswers.{row-missing}
 use Rattle.evaluator.proofs.evaluate.Reads as evaluate
@@ -168,32 +169,22 @@ module _ (t : Table) (i : ℕ) (ws ks : List ℕ) where
 -- ---- of the code: two answers of each function, with what it was lent
 
 pub evaluate-constraint : (κs : _) (a : _) (sum : ℤ) (h : Bool) (ones : ℕ) (s : _) → evaluate.Post κs a (Ok (Constraint sum h ones)) s
-    → ConstraintMeant
-    (table a.0.now a.1.0.now a.1.1.0.now a.1.1.1.0.now a.1.1.1.1.0.now a.1.1.1.1.1.0.now)
-    a.1.1.1.1.1.1.0 (within (looked a.1.1.1.1.1.1.1.0.now)) (assigned (looked a.1.1.1.1.1.1.1.0.now)) sum h
-    × (ones ≡ ones_of (looked a.1.1.1.1.1.1.1.0.now))
+    → ConstraintMeant (table_of a.0) a.1.0 (within (looked a.1.1.0.now)) (assigned (looked a.1.1.0.now)) sum h
+    × (ones ≡ ones_of (looked a.1.1.0.now))
 evaluate-constraint κs a sum h ones s p = evaluating-constraint _ _ _ sum h ones (sym p)
 
 pub evaluate-objective : (κs : _) (a : _) (value : ℤ) (ones : ℕ) (s : _) → evaluate.Post κs a (Ok (Objective value ones)) s
-    → ObjectiveMeant
-    (table a.0.now a.1.0.now a.1.1.0.now a.1.1.1.0.now a.1.1.1.1.0.now a.1.1.1.1.1.0.now)
-    a.1.1.1.1.1.1.0 (within (looked a.1.1.1.1.1.1.1.0.now)) (assigned (looked a.1.1.1.1.1.1.1.0.now)) value
-    × (ones ≡ ones_of (looked a.1.1.1.1.1.1.1.0.now))
+    → ObjectiveMeant (table_of a.0) a.1.0 (within (looked a.1.1.0.now)) (assigned (looked a.1.1.0.now)) value
+    × (ones ≡ ones_of (looked a.1.1.0.now))
 evaluate-objective κs a value ones s p = evaluating-objective _ _ _ value ones (sym p)
 
 pub evaluate-known-constraint : (κs : _) (a : _) (sum : ℤ) (h : Bool) (ones : ℕ) (s : _)
     → evaluate-known.Post κs a (Ok (Constraint sum h ones)) s
-    → ConstraintMeant
-    (table a.0.now a.1.0.now a.1.1.0.now a.1.1.1.0.now a.1.1.1.1.0.now a.1.1.1.1.1.0.now)
-    a.1.1.1.1.1.1.0 (is_known (looked a.1.1.1.1.1.1.1.0.now) (looked a.1.1.1.1.1.1.1.1.0.now))
-    (assigned (looked a.1.1.1.1.1.1.1.0.now)) sum h
-    × (ones ≡ known_ones (looked a.1.1.1.1.1.1.1.0.now) (looked a.1.1.1.1.1.1.1.1.0.now))
+    → ConstraintMeant (table_of a.0) a.1.0 (is_known (looked a.1.1.0.now) (looked a.1.1.1.0.now)) (assigned (looked a.1.1.0.now)) sum h
+    × (ones ≡ known_ones (looked a.1.1.0.now) (looked a.1.1.1.0.now))
 evaluate-known-constraint κs a sum h ones s p = known-constraint _ _ _ _ sum h ones (sym p)
 
 pub evaluate-known-objective : (κs : _) (a : _) (value : ℤ) (ones : ℕ) (s : _) → evaluate-known.Post κs a (Ok (Objective value ones)) s
-    → ObjectiveMeant
-    (table a.0.now a.1.0.now a.1.1.0.now a.1.1.1.0.now a.1.1.1.1.0.now a.1.1.1.1.1.0.now)
-    a.1.1.1.1.1.1.0 (is_known (looked a.1.1.1.1.1.1.1.0.now) (looked a.1.1.1.1.1.1.1.1.0.now))
-    (assigned (looked a.1.1.1.1.1.1.1.0.now)) value
-    × (ones ≡ known_ones (looked a.1.1.1.1.1.1.1.0.now) (looked a.1.1.1.1.1.1.1.1.0.now))
+    → ObjectiveMeant (table_of a.0) a.1.0 (is_known (looked a.1.1.0.now) (looked a.1.1.1.0.now)) (assigned (looked a.1.1.0.now)) value
+    × (ones ≡ known_ones (looked a.1.1.0.now) (looked a.1.1.1.0.now))
 evaluate-known-objective κs a value ones s p = known-objective _ _ _ _ value ones (sym p)

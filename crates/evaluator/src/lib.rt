@@ -6,58 +6,32 @@
 mod judging;
 
 ghost use Rattle.std.specs.Prelude.{◌≡◌};
-ghost use Rattle.definitions.specs.Table.{table};
 ghost use Rattle.definitions.specs.Evaluate.{evaluating, evaluating_known};
+ghost use Rattle.tables.specs.Lent.{table_of};
 ghost use Rattle.verdicts.specs.Said.{said_evaluated};
 
 use definitions::Refusal;
 pub use judging::judge;
+use tables::Table;
 use verdicts::Evaluated;
 
 // A row under words that are all known.
-pub fn evaluate(
-    kinds: &[u8],
-    firsts: &[usize],
-    counts: &[usize],
-    bounds: &[i64],
-    weights: &[i64],
-    literals: &[u32],
-    row: usize,
-    words: &[u64],
-) -> Result<Evaluated, Refusal>
-    ensures { said_evaluated result ≡ evaluating (table kinds.now firsts.now counts.now bounds.now weights.now literals.now) row words.now }
+pub fn evaluate(t: Table<'_>, row: usize, words: &[u64]) -> Result<Evaluated, Refusal>
+    ensures { said_evaluated result ≡ evaluating (table_of t.entry) row words.now }
 {
     let ones = assigned::ones_of(words, None);
-    rows::evaluate_row(
-        kinds, firsts, counts, bounds, weights, literals, row, words, None, ones,
-    )
+    rows::evaluate_row(t, row, words, None, ones)
 }
 
 // A row under values of which some are known: a variable beyond the shorter row, or not known, is 12.
 pub fn evaluate_known(
-    kinds: &[u8],
-    firsts: &[usize],
-    counts: &[usize],
-    bounds: &[i64],
-    weights: &[i64],
-    literals: &[u32],
+    t: Table<'_>,
     row: usize,
     values: &[u64],
     known: &[u64],
 ) -> Result<Evaluated, Refusal>
-    ensures { said_evaluated result ≡ evaluating_known (table kinds.now firsts.now counts.now bounds.now weights.now literals.now) row values.now known.now }
+    ensures { said_evaluated result ≡ evaluating_known (table_of t.entry) row values.now known.now }
 {
     let ones = assigned::ones_of(values, Some(known));
-    rows::evaluate_row(
-        kinds,
-        firsts,
-        counts,
-        bounds,
-        weights,
-        literals,
-        row,
-        values,
-        Some(known),
-        ones,
-    )
+    rows::evaluate_row(t, row, values, Some(known), ones)
 }

@@ -6,6 +6,7 @@ ghost use Rattle.opb_rows.specs.ByValue.{value_answer};
 ghost use Rattle.opb_rows.specs.Calls.{evaluate_answer, evaluate_known_answer};
 
 use definitions::Refusal;
+use tables::Table;
 use verdicts::Evaluated;
 
 // A constraint's sum, with `holds` 1 or 0; or an objective's value, with `holds` 2. `ones` is the number of ones in the
@@ -64,7 +65,15 @@ pub extern "C" fn opb_evaluate(
 ) -> OpbValue
     ensures { result ≡ evaluate_answer (table kinds.now firsts.now counts.now bounds.now weights.now literals.now) row words.now }
 {
-    value_of(evaluator::evaluate(kinds, firsts, counts, bounds, weights, literals, row, words))
+    let t = Table {
+        kinds,
+        firsts,
+        counts,
+        bounds,
+        weights,
+        literals,
+    };
+    value_of(evaluator::evaluate(t, row, words))
 }
 
 // The same where the second row of words says which variables are known; one that is not is 12, as one beyond the
@@ -83,7 +92,13 @@ pub extern "C" fn opb_evaluate_known(
 ) -> OpbValue
     ensures { result ≡ evaluate_known_answer (table kinds.now firsts.now counts.now bounds.now weights.now literals.now) row values.now known.now }
 {
-    value_of(evaluator::evaluate_known(
-        kinds, firsts, counts, bounds, weights, literals, row, values, known,
-    ))
+    let t = Table {
+        kinds,
+        firsts,
+        counts,
+        bounds,
+        weights,
+        literals,
+    };
+    value_of(evaluator::evaluate_known(t, row, values, known))
 }

@@ -5,6 +5,7 @@ ghost use Rattle.definitions.specs.Table.{table};
 ghost use Rattle.opb_rows.specs.Calls.{judge_answer};
 
 use crate::evaluating::{OpbValue, value_of};
+use tables::Table;
 
 // Row `row`, counted from 0, where the second row of words says which variables are known. 11, 8, 12, 8 in this order,
 // with the row as the place.
@@ -22,7 +23,13 @@ pub extern "C" fn opb_judge(
 ) -> OpbValue
     ensures { result ≡ judge_answer (table kinds.now firsts.now counts.now bounds.now weights.now literals.now) row values.now known.now }
 {
-    value_of(evaluator::judge(
-        kinds, firsts, counts, bounds, weights, literals, row, values, known,
-    ))
+    let t = Table {
+        kinds,
+        firsts,
+        counts,
+        bounds,
+        weights,
+        literals,
+    };
+    value_of(evaluator::judge(t, row, values, known))
 }

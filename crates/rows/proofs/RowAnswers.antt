@@ -3,23 +3,24 @@
 use mathlib.Core.Path.{◌≡◌, refl, sym, ap, ◌∙◌}
 use mathlib.Core.Bool.{Bool, true, false, cond, ◌&&◌}
 use mathlib.Core.Logic.{◌⊎◌, inl, inr}
-use mathlib.Core.List.{List, []}
-use Prim.Native.Nat.{ℕ, ◌≤◌, ◌<◌}
+use mathlib.Core.List.{List, [], ◌∷◌}
+use Prim.Native.Nat.{ℕ, zero, suc, ◌≤◌, ◌<◌}
 use native.Mathlib.Omega.{arith}
 use lib.Dec.{leb}
 use lib.IntN.{ℤ}
-use Rattle.std.specs.Prelude.{Option}
+use lib.ListN.{drop}
+use Rattle.std.specs.Prelude.{Option, Some, None, slice_get}
 use Rattle.definitions.specs.Limits.{weight_limit}
 use Rattle.definitions.specs.Refusal.{refusal, Checked, refuse, accept}
 use Rattle.definitions.specs.Row.{Row, row_of, Line, row, sizes}
-use Rattle.definitions.specs.Table.{Table, Outcome, row_room, refused, indexed, terms_at, in_column, remark, sort_of, line_in, and_then, table}
+use Rattle.definitions.specs.Table.{Table, Outcome, row_room, refused, indexed, terms_at, in_column, remark, sort_of, line_in, and_then, table, entries}
 use Rattle.definitions.specs.declared.Kind.{Kind}
 use Rattle.definitions.specs.declared.Entry.{Entry}
 use Rattle.definitions.specs.Meaning.{Assignment, sum_of, assigned}
-use Rattle.definitions.specs.Evaluate.{Evaluated as Found, covered, found, found_in, on_place, evaluating_by}
+use Rattle.definitions.specs.Evaluate.{Evaluated as Found, covered, found, found_in, front_by, on_place, evaluating_by}
 use Rattle.columns.specs.Kinds.{read_kind}
 use Rattle.columns.proofs.KindNumbers.{read-kind, unread-kind, line-by-terms}
-use Rattle.columns.proofs.EntryLaws.{entry_at, entries_from, entries-end}
+use Rattle.tables.proofs.Entries.{entry-none}
 use Rattle.assigned.specs.WordsSay.{has_by}
 use Rattle.summed.specs.Sums.{summed_at}
 use Rattle.verdicts.specs.Verdicts.{verdict_of}
@@ -98,15 +99,32 @@ module _ (e : Entry) (ws : List ℤ) (cs : List ℕ) (known : Option (List ℕ))
 
 -- ---- a row of the table
 
-module _ (t : Table) (i : ℕ) where
-  pub row-missing : (has : ℕ → Bool) (a : Assignment) (ones : ℕ) → row_room t ≤ i → evaluating_by has a ones t i ≡ refused (refusal 11 i)
-  unfolding evaluating_by
-  row-missing has a ones h = rw (entries-end t i h)
+module _ (t : Table) (f : Line → Checked Found) where
+  front-got : (es : List Entry) (i : ℕ) (e : Entry) → slice_get es i ≡ Some e → front_by (drop i es) t f ≡ and_then (line_in t e) f
+  front-got [] zero e q = cc
+  front-got [] (suc i) e q = cc
+  front-got (d ∷ es) zero e q = ap (λ (x : Entry). and_then (line_in t x) f) ((cc))
+  front-got (d ∷ es) (suc i) e q = front-got es i e q
 
-  pub row-there : (known : Option (List ℕ)) (words : List ℕ) (ones : ℕ) → i < row_room t
-      → on_place i (found_at (entry_at t i) t.weights t.literals known words ones) ≡ evaluating_of t i known words ones
+  front-none : (es : List Entry) (i : ℕ) → slice_get es i ≡ None → front_by (drop i es) t f ≡ refuse 11
+  front-none [] zero q = refl
+  front-none [] (suc i) q = refl
+  front-none (d ∷ es) zero q = cc
+  front-none (d ∷ es) (suc i) q = front-none es i q
+
+module _ (t : Table) (i : ℕ) where
+  pub row-none : (has : ℕ → Bool) (a : Assignment) (ones : ℕ) → slice_get (entries t) i ≡ None
+      → evaluating_by has a ones t i ≡ refused (refusal 11 i)
   unfolding evaluating_by
-  row-there known words ones h =
-      rw (entries_from t i h)
-      (ap (λ (l : Checked Line). on_place i (and_then l (found_in (has_by known words) (assigned words) ones)))
-      (sym (line-by-terms t (entry_at t i))))
+  row-none has a ones q = ap (on_place i) (front-none t (found_in has a ones) (entries t) i q)
+
+  pub row-missing : (has : ℕ → Bool) (a : Assignment) (ones : ℕ) → row_room t ≤ i → evaluating_by has a ones t i ≡ refused (refusal 11 i)
+  row-missing has a ones h = row-none has a ones (entry-none t i h)
+
+  pub row-there : (known : Option (List ℕ)) (words : List ℕ) (ones : ℕ) (e : Entry) → slice_get (entries t) i ≡ Some e
+      → on_place i (found_at e t.weights t.literals known words ones) ≡ evaluating_of t i known words ones
+  unfolding evaluating_by
+  row-there known words ones e q =
+      let f = found_in (has_by known words) (assigned words) ones in
+      ap (λ (l : Checked Line). on_place i (and_then l f)) (sym (line-by-terms t e))
+      ∙ sym (ap (on_place i) (front-got t f (entries t) i e q))

@@ -4,14 +4,15 @@
 #![tactic(auto)]
 
 ghost use Rattle.std.specs.Prelude.{◌≡◌, option_copied, option_map};
-ghost use Rattle.definitions.specs.Table.{table};
 ghost use Rattle.definitions.specs.Refusal.{refusal};
 ghost use Rattle.definitions.specs.Evaluate.{on_place};
+ghost use Rattle.tables.specs.Lent.{table_of};
 ghost use Rattle.assigned.specs.WordsSay.{looked};
 ghost use Rattle.verdicts.specs.Said.{said_evaluated};
 ghost use Rattle.rows.specs.FoundRow.{found_at, evaluating_of};
 
-use definitions::{AT_LEAST, OBJECTIVE, Refusal};
+use definitions::{AT_LEAST, Entry, OBJECTIVE, Refusal};
+use tables::Table;
 use verdicts::Evaluated;
 
 // The place of each refusal is the row.
@@ -26,25 +27,21 @@ fn at_row(number: u8, row: usize) -> Refusal
 
 // An entry of the table. A comment, and any kind that the reader does not give, is a "row that no table may hold".
 fn evaluate_entry(
-    kind: u8,
-    first: usize,
-    count: usize,
-    bound: i64,
-    weights: &[i64],
-    literals: &[u32],
+    entry: Entry,
+    t: Table<'_>,
     row: usize,
     words: &[u64],
     known: Option<&[u64]>,
     ones: u64,
 ) -> Result<Evaluated, Refusal>
-    ensures { said_evaluated result ≡ on_place row (found_at (record { kind = kind; first = first; count = count; bound = bound }) weights.now literals.now (option_map looked (option_copied known.entry)) (looked words.now) ones) }
+    ensures { said_evaluated result ≡ on_place row (found_at entry t.entry.weights.now t.entry.literals.now (option_map looked (option_copied known.entry)) (looked words.now) ones) }
 {
-    match kind {
+    match entry.kind {
         AT_LEAST..=OBJECTIVE => {}
         _ => return Err(at_row(11, row)),
     }
-    match summed::sum_row(first, count, weights, literals, words, known) {
-        Ok(sum) => verdicts::verdict(kinds::read_kind(kind), sum, bound, ones, row),
+    match summed::sum_row(entry, t, words, known) {
+        Ok(sum) => verdicts::verdict(kinds::read_kind(entry.kind), sum, entry.bound, ones, row),
         Err(fault) => Err(at_row(fault.number, row)),
     }
 }
@@ -52,32 +49,16 @@ fn evaluate_entry(
 // Row `row` of the table, rows counted from 0. Order: "11 (comments and missing rows too), 8 for absolute weights, 12,
 // then 8 for an objective's value".
 pub fn evaluate_row(
-    kinds: &[u8],
-    firsts: &[usize],
-    counts: &[usize],
-    bounds: &[i64],
-    weights: &[i64],
-    literals: &[u32],
+    t: Table<'_>,
     row: usize,
     words: &[u64],
     known: Option<&[u64]>,
     ones: u64,
 ) -> Result<Evaluated, Refusal>
-    ensures { said_evaluated result ≡ evaluating_of (table kinds.now firsts.now counts.now bounds.now weights.now literals.now) row (option_map looked (option_copied known.entry)) (looked words.now) ones }
+    ensures { said_evaluated result ≡ evaluating_of (table_of t.entry) row (option_map looked (option_copied known.entry)) (looked words.now) ones }
 {
-    if row >= columns::row_room(kinds, firsts, counts, bounds) {
+    let Some(entry) = t.entry(row) else {
         return Err(at_row(11, row));
-    }
-    evaluate_entry(
-        kinds[row],
-        firsts[row],
-        counts[row],
-        bounds[row],
-        weights,
-        literals,
-        row,
-        words,
-        known,
-        ones,
-    )
+    };
+    evaluate_entry(entry, t, row, words, known, ones)
 }

@@ -13,8 +13,9 @@ ghost use Rattle.definitions.specs.Evaluate.{within};
 ghost use Rattle.assigned.specs.WordsSay.{looked, has_by, codes_covered};
 ghost use Rattle.summed.specs.Sums.{said_summed, summed_over, summed_at};
 
-use definitions::{Fault, WEIGHT_LIMIT, WORD_LIMIT};
+use definitions::{Entry, Fault, WEIGHT_LIMIT, WORD_LIMIT};
 use literals::Lit;
+use tables::Table;
 
 // "Variable v is bit v mod 64 of word v/64."
 fn is_true(literal: Lit, words: &[u64]) -> bool
@@ -66,22 +67,25 @@ fn sum_terms(
     Ok(sum_of(weights, literals, words))
 }
 
-// `count` terms from `first` on, under the words that are looked at.
+// The terms of an entry, under the words that are looked at.
 pub fn sum_row(
-    first: usize,
-    count: usize,
-    weights: &[i64],
-    literals: &[u32],
+    entry: Entry,
+    t: Table<'_>,
     words: &[u64],
     known: Option<&[u64]>,
 ) -> Result<i64, Fault>
-    ensures { said_summed result ≡ summed_at first count weights.now literals.now (option_map looked (option_copied known.entry)) (looked words.now) }
+    ensures { said_summed result ≡ summed_at entry.first entry.count t.entry.weights.now t.entry.literals.now (option_map looked (option_copied known.entry)) (looked words.now) }
 {
-    let room = columns::term_room(weights, literals);
-    if !columns::in_column(first, count, room) {
+    let Entry { first, count, .. } = entry;
+    if !columns::in_column(first, count, t.term_room()) {
         return Err(Fault { number: 11 });
     }
     let end = first + count;
     let looked = &words[..words.len().min(WORD_LIMIT)];
-    sum_terms(&weights[first..end], &literals[first..end], looked, known)
+    sum_terms(
+        &t.weights[first..end],
+        &t.literals[first..end],
+        looked,
+        known,
+    )
 }

@@ -4,17 +4,17 @@ use Rattle.std.proofs.Common.{inl, inr, arith, rules, w64, FitsSigned}
 use mir.Facts.{to_z-of_z}
 use Rattle.rows.proofs.RowAnswers.{entry-unread, entry-refused, entry-verdict}
 use Rattle.rows.proofs.evaluate_entry.Goals as goal
-use Rattle.rows.proofs.evaluate_entry.Goals.{in_default-via-then-kind-lt1, in_default-via-else-kind-lt1+else-kind-lt5}
+use Rattle.rows.proofs.evaluate_entry.Goals.{in_default-via-then-entry-lt1, in_default-via-else-entry-lt1+else-entry-lt5}
 
 pub returns-in_default : goal.returns-in_default
 returns-in_default c =
     let a = c.args in
     rw (
       c.at_row.ensures,
-      entry-unread (record { kind = a.kind; first = a.first; count = a.count; bound = a.bound }) a.weights.now a.literals.now _ _ a.ones
+      entry-unread a.entry a.t.weights.now a.t.literals.now _ _ a.ones
           (elim c.in_default.branch [
-            | in_default-via-then-kind-lt1 w ↦ inl (omega arith)
-            | in_default-via-else-kind-lt1+else-kind-lt5 w ↦ inr (omega arith)
+            | in_default-via-then-entry-lt1 w ↦ inl (omega arith)
+            | in_default-via-else-entry-lt1+else-entry-lt5 w ↦ inr (omega arith)
           ]),
     )
 
@@ -23,7 +23,7 @@ returns-in-Err c =
     let a = c.args in
     rw (
       c.at_row-in-Err.ensures,
-      entry-refused (record { kind = a.kind; first = a.first; count = a.count; bound = a.bound }) a.weights.now a.literals.now _ _ a.ones
+      entry-refused a.entry a.t.weights.now a.t.literals.now _ _ a.ones
           (omega arith) (omega arith) c.in-Err.fault.number c.in-Err.ensures,
     )
 
@@ -31,6 +31,7 @@ pub returns-in-Ok : goal.returns-in-Ok
 returns-in-Ok c =
     let a = c.args in
     let f : FitsSigned w64 c.in-Ok.sum = search rules in
-    entry-verdict (record { kind = a.kind; first = a.first; count = a.count; bound = a.bound }) a.weights.now a.literals.now _ _ a.ones
+    let b : FitsSigned w64 a.entry.bound = search rules in
+    entry-verdict a.entry a.t.weights.now a.t.literals.now _ _ a.ones
     (omega arith) (omega arith) c.in-Ok.sum a.row _ _ c.in-Ok.ensures c.read_kind.ensures
-    (rw (to_z-of_z f, to_z-of_z c.ranges.bound) at c.verdict.ensures)
+    (rw (to_z-of_z f, to_z-of_z b) at c.verdict.ensures)

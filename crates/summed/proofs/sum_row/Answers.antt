@@ -7,5 +7,6 @@ use Rattle.summed.proofs.sum_row.Goals as goal
 pub returns : goal.returns
 returns c =
     let a = c.args in
-    row-summed a.first a.count _ a.weights.now a.literals.now (option_copied a.known) a.words.now _ _ (omega arith) c.min.ensures
-    (ap (leb (a.first + a.count)) (sym c.term_room-room.ensures) ∙ sym c.in_column.ensures ∙ c.if-not-in_column.false) c.sum_terms.ensures
+    let e = a.entry in
+    row-summed e.first e.count _ a.t.weights.now a.t.literals.now (option_copied a.known) a.words.now _ _ (omega arith) c.min.ensures
+    (ap (leb (e.first + e.count)) (sym c.term_room.ensures) ∙ sym c.in_column.ensures ∙ c.if-not-in_column.false) c.sum_terms.ensures
