@@ -57,14 +57,3 @@ pub fn column<T: Entry>(words: &mut Words<'_>, out: &mut [T]) -> Option<usize>
     }
     Some(count)
 }
-
-// The columns of a case's table.
-#[derive(Clone, Copy)]
-pub struct Table<'a> {
-    pub kinds: &'a [u8],
-    pub firsts: &'a [usize],
-    pub counts: &'a [usize],
-    pub bounds: &'a [i64],
-    pub weights: &'a [i64],
-    pub literals: &'a [u32],
-}

@@ -3,7 +3,7 @@
 
 use std::io;
 use std::io::Write;
-use vectors_columns::Table;
+use tables::Table;
 use vectors_shown::{say_counted, say_table};
 use vectors_words::Words;
 

@@ -4,7 +4,8 @@ ghost use Rattle.std.specs.Prelude.{◌≤◌, length, IfSome};
 use definitions::Refusal;
 use std::io;
 use std::io::Write;
-use vectors_columns::{Table, WORDS, column};
+use tables::Table;
+use vectors_columns::{WORDS, column};
 use vectors_shown::{say, say_refusal};
 use vectors_words::Words;
 use verdicts::Evaluated;
@@ -27,34 +28,11 @@ fn evaluate<W: Write>(
     known: &[u64],
     table: Table<'_>,
 ) -> io::Result<()> {
-    let Table {
-        kinds,
-        firsts,
-        counts,
-        bounds,
-        weights,
-        literals,
-    } = table;
-    show_evaluated(
-        output,
-        evaluator::evaluate(
-            kinds, firsts, counts, bounds, weights, literals, row, values,
-        ),
-    )?;
+    show_evaluated(output, evaluator::evaluate(table, row, values))?;
     say(output, b" |")?;
-    show_evaluated(
-        output,
-        evaluator::evaluate_known(
-            kinds, firsts, counts, bounds, weights, literals, row, values, known,
-        ),
-    )?;
+    show_evaluated(output, evaluator::evaluate_known(table, row, values, known))?;
     say(output, b" |")?;
-    show_evaluated(
-        output,
-        evaluator::judge(
-            kinds, firsts, counts, bounds, weights, literals, row, values, known,
-        ),
-    )
+    show_evaluated(output, evaluator::judge(table, row, values, known))
 }
 
 // The row of such a case, and how many words it has at the front of each buffer; or none.

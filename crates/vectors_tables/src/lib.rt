@@ -9,7 +9,8 @@ ghost use Rattle.std.specs.Prelude.{◌≤◌, length, IfSome};
 
 use std::io;
 use std::io::Write;
-use vectors_columns::{ROOM, Table, column};
+use tables::Table;
+use vectors_columns::{ROOM, column};
 use vectors_words::Words;
 
 fn run<W: Write>(

@@ -4,7 +4,8 @@ ghost use Rattle.std.specs.Prelude.{◌≤◌, length, IfSome};
 use definitions::{Mode, Refusal};
 use std::io;
 use std::io::Write;
-use vectors_columns::{ROOM, Table, column};
+use tables::Table;
+use vectors_columns::{ROOM, column};
 use vectors_shown::{say_each, say_refusal};
 use vectors_words::Words;
 
