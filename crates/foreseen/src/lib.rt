@@ -4,11 +4,12 @@
 
 ghost use Rattle.std.specs.Prelude.{◌≡◌, length};
 ghost use Rattle.definitions.specs.Write.{writing};
-ghost use Rattle.definitions.specs.Table.{table};
+ghost use Rattle.tables.specs.Lent.{table_of};
 ghost use Rattle.foreseen.specs.Returning.{said_returned, returning, foretold};
 
 use definitions::{Mode, Refusal};
 use measures::Extent;
+use tables::Table;
 
 // What comes back: the length of the text, and the rows and terms read of it.
 #[derive(Clone, Copy, Debug, PartialEq, Eq)]
@@ -65,29 +66,14 @@ fn foretell(all: Extent, room: usize, rows: usize, terms: usize) -> Result<Back,
 
 // Into an output with that room, and back into tables with theirs.
 pub fn foresee(
-    kinds: &[u8],
-    firsts: &[usize],
-    counts: &[usize],
-    bounds: &[i64],
-    weights: &[i64],
-    literals: &[u32],
+    t: Table<'_>,
     text: &[u8],
     mode: Mode,
     out: &[u8],
-    newkinds: &[u8],
-    newfirsts: &[usize],
-    newcounts: &[usize],
-    newbounds: &[i64],
-    newweights: &[i64],
-    newliterals: &[u32],
+    new: Table<'_>,
 ) -> Result<Back, NotBack>
-    ensures { said_returned result ≡ returning mode (table newkinds.now newfirsts.now newcounts.now newbounds.now newweights.now newliterals.now)
-        (writing mode (table kinds.now firsts.now counts.now bounds.now weights.now literals.now) text.now (length out.now)) }
+    ensures { said_returned result ≡ returning mode (table_of new.entry) (writing mode (table_of t.entry) text.now (length out.now)) }
 {
-    let all = measures::measure_opb_lines(
-        kinds, firsts, counts, bounds, weights, literals, text, mode,
-    ).map_err(NotBack::NotWritten)?;
-    let rows = columns::row_room(newkinds, newfirsts, newcounts, newbounds);
-    let terms = columns::term_room(newweights, newliterals);
-    foretell(all, out.len(), rows, terms)
+    let all = measures::measure_opb_lines(t, text, mode).map_err(NotBack::NotWritten)?;
+    foretell(all, out.len(), new.row_room(), new.term_room())
 }

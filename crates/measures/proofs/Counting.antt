@@ -5,6 +5,7 @@ use Prim.Native.Nat.{ℕ, ◌+◌, ◌≤◌, ◌<◌}
 use native.Mathlib.Nat.{zero-add}
 use native.Mathlib.Omega.{arith}
 use lib.ListN.{length, drop, length-append}
+use Rattle.std.specs.Prelude.{Some, slice_get}
 use Rattle.definitions.specs.Lists.{joined, total}
 use Rattle.definitions.specs.Limits.{needed_limit}
 use Rattle.definitions.specs.Refusal.{Checked, refuse, accept, refusal, needed}
@@ -13,9 +14,8 @@ use Rattle.definitions.specs.declared.Entry.{Entry}
 use Rattle.definitions.specs.Write.{Item, item_text, written_in}
 use Rattle.definitions.specs.Back.{lines_back, terms_back}
 use Rattle.definitions.specs.declared.Mode.{Mode}
-use Rattle.columns.proofs.EntryLaws.{entry_at, entries_from, entries-end}
-use Rattle.printed.specs.Rows.{on_columns}
-use Rattle.printed.proofs.OneEntry.{written_on}
+use Rattle.columns.proofs.EntryLaws.{entries_from, entries-end}
+use Rattle.tables.proofs.Entries.{entry-taken}
 use Rattle.measures.specs.declared.rows.Extent.{Extent}
 use Rattle.measures.specs.Rows.{extent_of, measured}
 use Rattle.measures.specs.RowsMeasured.{added_to, items_for, lines_of, extent_by, extent_for}
@@ -98,18 +98,20 @@ module _ (m : Mode) (t : Table) (text : List ℕ) where
       by (accepted is) = same-extent (rw zero-add) (rw zero-add) (rw zero-add)
 
   module _ {i : ℕ} {a : Extent} (g : Counting i a) where
-    module _ (h : i < row_room t) (r : Checked Extent)
-        (e : r ≡ measured m (written_in m (on_columns t.weights t.literals) text (entry_at t i))) where
+    module _ (x : Entry) (h : slice_get (entries t) i ≡ Some x) (r : Checked Extent) (e : r ≡ extent_at x) where
+      inside : i < row_room t
+      inside = (entry-taken t i x h).0
+
       step : measured_then r i a (λ b. measuring extent_at (i + 1) b (drop (i + 1) (entries t))) ≡ extent_for m t text
       unfolding measuring
-      step = rw (e, ← written_on m t text (entry_at t i)) (rw (entries_from t i h) at g.left) ∙ whole
+      step = rw (e, (entry-taken t i x h).1) (rw (entries_from t i inside) at g.left) ∙ whole
 
       pub counting-refused : (n : ℕ) → r ≡ refuse n → refused (refusal n i) ≡ extent_for m t text
       counting-refused n q = rw q at step
 
       pub counting_more : (k b : Extent) → r ≡ accept k → b ≡ added_to a k → Counting (i + 1) b
       counting_more k b q p =
-          record { within = omega arith; limit = rw p (within-added a k); left = rw p (rw q at step) ∙ sym whole }
+          record { within = omega (arith, inside); limit = rw p (within-added a k); left = rw p (rw q at step) ∙ sym whole }
 
     pub counting-all : row_room t ≤ i → accepted a ≡ extent_for m t text
     unfolding measuring

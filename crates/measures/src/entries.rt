@@ -1,13 +1,14 @@
 // One row of the table, comments too: its refusal, or what it comes to. Assumes nothing.
 ghost use Rattle.std.specs.Prelude.{◌≡◌};
 ghost use Rattle.definitions.specs.Write.{written_in};
-ghost use Rattle.printed.specs.Rows.{entry_of, on_columns};
 ghost use Rattle.measures.specs.Rows.{measured, said_measured};
 ghost use Rattle.measures.specs.Entries.{comment_measured, part_measured};
+ghost use Rattle.tables.specs.Lent.{table_of};
 
 use crate::rows::{Extent, row_length};
-use definitions::{Fault, Mode};
+use definitions::{Entry, Fault, Mode};
 use printed::{Shape, sort_of};
+use tables::Table;
 
 // 11: "a comment outside its lent text"; 15: "comment text with an LF". Behind the text stand `* ` and the line's end.
 fn comment_length(first: usize, count: usize, text: &[u8]) -> Result<Extent, Fault>
@@ -29,38 +30,27 @@ fn comment_length(first: usize, count: usize, text: &[u8]) -> Result<Extent, Fau
 }
 
 // 11: "terms outside their column"
-fn part_length(
-    shape: Shape,
-    first: usize,
-    count: usize,
-    weights: &[i64],
-    literals: &[u32],
-    mode: Mode,
-) -> Result<Extent, Fault>
-    ensures { said_measured result ≡ part_measured shape first count weights.now literals.now mode }
+fn part_length(shape: Shape, entry: Entry, t: Table<'_>, mode: Mode) -> Result<Extent, Fault>
+    ensures { said_measured result ≡ part_measured shape entry (table_of t.entry) mode }
 {
-    let room = columns::term_room(weights, literals);
-    if !columns::in_column(first, count, room) {
+    let Entry { first, count, .. } = entry;
+    if !columns::in_column(first, count, t.term_room()) {
         return Err(Fault { number: 11 });
     }
     let end = first + count;
-    row_length(shape, &weights[first..end], &literals[first..end], mode)
+    row_length(shape, &t.weights[first..end], &t.literals[first..end], mode)
 }
 
 pub(crate) fn entry_length(
-    kind: u8,
-    first: usize,
-    count: usize,
-    bound: i64,
-    weights: &[i64],
-    literals: &[u32],
+    entry: Entry,
+    t: Table<'_>,
     text: &[u8],
     mode: Mode,
 ) -> Result<Extent, Fault>
-    ensures { said_measured result ≡ measured mode (written_in mode (on_columns weights.now literals.now) text.now (entry_of kind first count bound)) }
+    ensures { said_measured result ≡ measured mode (written_in mode (table_of t.entry) text.now entry) }
 {
-    match sort_of(kind, bound)? {
-        None => comment_length(first, count, text),
-        Some(shape) => part_length(shape, first, count, weights, literals, mode),
+    match sort_of(entry.kind, entry.bound)? {
+        None => comment_length(entry.first, entry.count, text),
+        Some(shape) => part_length(shape, entry, t, mode),
     }
 }

@@ -7,13 +7,14 @@ mod rows;
 mod terms;
 
 ghost use Rattle.std.specs.Prelude.{◌≡◌};
-ghost use Rattle.definitions.specs.Table.{table};
+ghost use Rattle.tables.specs.Lent.{table_of};
 ghost use Rattle.measures.specs.RowsMeasured.{added_to, said_measure, extent_for};
 
 use definitions::{Mode, Refusal};
 use entries::entry_length;
 use lengths::add_needed;
 pub use rows::Extent;
+use tables::Table;
 
 fn add_extent(all: Extent, more: Extent) -> Extent
     ensures { result ≡ added_to all more }
@@ -27,35 +28,19 @@ fn add_extent(all: Extent, more: Extent) -> Extent
 
 // What all rows come to: what would be written, and what of it would come back, whatever room there is for it; or the
 // first refusal and its row.
-pub fn measure_opb_lines(
-    kinds: &[u8],
-    firsts: &[usize],
-    counts: &[usize],
-    bounds: &[i64],
-    weights: &[i64],
-    literals: &[u32],
-    text: &[u8],
-    mode: Mode,
-) -> Result<Extent, Refusal>
-    ensures { said_measure result ≡ extent_for mode (table kinds.now firsts.now counts.now bounds.now weights.now literals.now) text.now }
+pub fn measure_opb_lines(t: Table<'_>, text: &[u8], mode: Mode) -> Result<Extent, Refusal>
+    ensures { said_measure result ≡ extent_for mode (table_of t.entry) text.now }
 {
     let mut all = Extent {
         length: 0,
         lines: 0,
         terms: 0,
     };
-    for row in 0..columns::row_room(kinds, firsts, counts, bounds) {
-        let more = entry_length(
-            kinds[row],
-            firsts[row],
-            counts[row],
-            bounds[row],
-            weights,
-            literals,
-            text,
-            mode,
-        )
-        .map_err(|fault| Refusal {
+    for row in 0..t.row_room() {
+        let Some(entry) = t.entry(row) else {
+            break;
+        };
+        let more = entry_length(entry, t, text, mode).map_err(|fault| Refusal {
             number: fault.number,
             place: row as u64,
         })?;

@@ -11,6 +11,7 @@ ghost use Rattle.opb_texts.specs.ByValue.{length_answer};
 ghost use Rattle.opb_texts.specs.Calls.{WritesLines, ListsTable};
 
 use definitions::{Mode, Refusal};
+use tables::Table;
 
 // How many bytes of the output the text takes. `refusal` is 0 exactly where the call accepted, else the refusal's
 // number; then `place` is its place and the length is 0.
@@ -59,9 +60,15 @@ pub extern "C" fn opb_write(
 {
     let plain = plain != 0;
     let mode = Mode { first, plain };
-    text_answer(writer::write_opb_lines(
-        kinds, firsts, counts, bounds, weights, literals, text, mode, out,
-    ))
+    let t = Table {
+        kinds,
+        firsts,
+        counts,
+        bounds,
+        weights,
+        literals,
+    };
+    text_answer(writer::write_opb_lines(t, text, mode, out))
 }
 
 // The house lines of the first `rows` rows, or of all where there are fewer. 11, 5 row by row; then 14.

@@ -23,16 +23,16 @@ use Rattle.definitions.specs.declared.Fault.{Fault}
 use Rattle.printed.specs.declared.kinds.Shape.{Shape}
 use Rattle.printed.specs.Kinds.{weighted_sort, cardinality_sort, sort_said}
 use Rattle.shown.specs.Terms.{own_term, own_terms}
-use Rattle.printed.specs.Rows.{entry_of, on_columns}
 
 -- ---- where the row stands
 
 pub part-is : {A : Type 0} (f n : ℕ) (l : List A) → take (f + n - f) (drop f l) ≡ take n (drop f l)
 part-is f n l = let e : f + n - f ≡ n = omega arith in rw e
 
-pub own_is : (ws : List ℤ) (cs : List ℕ) (k f n : ℕ) (b : ℤ) (unit : Bool)
-    → map (own_term unit) (terms_at (on_columns ws cs) (entry_of k f n b)) ≡ own_terms unit (take n (drop f ws)) (take n (drop f cs))
-own_is ws cs k f n b unit = ap (map (own_term unit)) (terms-at (on_columns ws cs) (entry_of k f n b))
+pub own_is : (t : Table) (e : Entry) (unit : Bool)
+    → map (own_term unit) (terms_at t e)
+    ≡ own_terms unit (take e.count (drop e.first t.weights)) (take e.count (drop e.first t.literals))
+own_is t e unit = ap (map (own_term unit)) (terms-at t e)
 
 -- ---- what an entry asks to be written, by the code's sort
 
@@ -79,16 +79,3 @@ module _ (t : Table) (text : List ℕ) (e : Entry) where
       → written_in m t text e ≡ and_then (item_for s t text e) (allowed m)
   unfolding written_in item_in
   written-by m s p = rw p (ap (λ (i : Checked Item). and_then i (allowed m)) (item-is (sort_of e.kind)))
-
--- of the table only the terms are looked at
-pub written_on : (m : Mode) (t : Table) (text : List ℕ) (e : Entry)
-    → written_in m t text e ≡ written_in m (on_columns t.weights t.literals) text e
-unfolding written_in item_in
-written_on m t text e = by (sort_of e.kind)
-  where
-    by : (s : Sort) → and_then (item_by s t text e) (allowed m) ≡ and_then (item_by s (on_columns t.weights t.literals) text e) (allowed m)
-    by remark = refl
-    by clause = refl
-    by unknown = refl
-    by (weighted k) = refl
-    by (cardinality k) = refl

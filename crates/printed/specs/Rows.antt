@@ -2,8 +2,6 @@
 use Rattle.std.specs.Prelude.{ℕ, cond, List, [], ◌∷◌, ℤ}
 use Rattle.definitions.specs.Bytes.{greater, equals}
 use Rattle.definitions.specs.Row.{Row, row_of}
-use Rattle.definitions.specs.Table.{Table, table}
-use Rattle.definitions.specs.declared.Entry.{Entry}
 use Rattle.definitions.specs.declared.Kind.{Kind}
 use Rattle.printed.specs.declared.kinds.Shape.{Shape}
 use Rattle.printed.specs.Kinds.{is_equal}
@@ -16,12 +14,3 @@ row_on s ws cs = row_of s.kind s.bound (own_terms s.unit ws cs)
 -- "An 'at most' row is written with ... `>=`"
 abbrev pub operator_text : Kind → List ℕ
 operator_text k = cond (is_equal k) (equals ∷ []) (greater ∷ equals ∷ [])
-
--- ---- where it stands
-
-abbrev pub entry_of : ℕ → ℕ → ℕ → ℤ → Entry
-entry_of k f n b = record { kind = k; first = f; count = n; bound = b }
-
--- a table of which only the terms are looked at
-abbrev pub on_columns : List ℤ → List ℕ → Table
-on_columns ws cs = table [] [] [] [] ws cs

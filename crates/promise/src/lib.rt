@@ -5,18 +5,15 @@
 #![tactic(auto)]
 
 ghost use Rattle.definitions.specs.Table.{table};
+ghost use Rattle.tables.specs.Lent.{table_of};
 ghost use Rattle.promise.specs.Returns.{Returns};
 
 use definitions::{Mode, Options};
 use foreseen::{Back, NotBack};
+use tables::Table;
 
 pub fn there_and_back(
-    kinds: &[u8],
-    firsts: &[usize],
-    counts: &[usize],
-    bounds: &[i64],
-    weights: &[i64],
-    literals: &[u32],
+    t: Table<'_>,
     text: &[u8],
     mode: Mode,
     out: &mut [u8],
@@ -27,31 +24,26 @@ pub fn there_and_back(
     newweights: &mut [i64],
     newliterals: &mut [u32],
 ) -> Result<Back, NotBack>
-    ensures { Returns mode (table kinds.now firsts.now counts.now bounds.now weights.now literals.now) text.now
+    ensures { Returns mode (table_of t.entry) text.now
         out.old (table newkinds.old newfirsts.old newcounts.old newbounds.old newweights.old newliterals.old)
         result out.new (table newkinds.new newfirsts.new newcounts.new newbounds.new newweights.new newliterals.new) }
 {
     let back = foreseen::foresee(
-        kinds,
-        firsts,
-        counts,
-        bounds,
-        weights,
-        literals,
+        t,
         text,
         mode,
         out,
-        newkinds,
-        newfirsts,
-        newcounts,
-        newbounds,
-        newweights,
-        newliterals,
+        Table {
+            kinds: newkinds,
+            firsts: newfirsts,
+            counts: newcounts,
+            bounds: newbounds,
+            weights: newweights,
+            literals: newliterals,
+        },
     )?;
     // Both accept, as was foreseen.
-    let _written = writer::write_opb_lines(
-        kinds, firsts, counts, bounds, weights, literals, text, mode, out,
-    );
+    let _written = writer::write_opb_lines(t, text, mode, out);
     let first = mode.first;
     let _read = reader::parse_opb_data(
         &out[..back.length],

@@ -29,18 +29,7 @@ fn write<W: Write>(
         return Ok(());
     }
     let lent = &mut out[0..room];
-    let Table {
-        kinds,
-        firsts,
-        counts,
-        bounds,
-        weights,
-        literals,
-    } = table;
-    let answer = writer::write_opb_lines(
-        kinds, firsts, counts, bounds, weights, literals, text, mode, lent,
-    );
-    show_written(output, answer)?;
+    show_written(output, writer::write_opb_lines(table, text, mode, lent))?;
     say_each(output, lent)
 }
 

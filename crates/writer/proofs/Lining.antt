@@ -5,6 +5,7 @@ use Prim.Native.Nat.{ℕ, ◌+◌, ◌≤◌, ◌<◌}
 use native.Mathlib.Nat.{zero-add}
 use native.Mathlib.Omega.{arith}
 use lib.ListN.{length, drop, length-append}
+use Rattle.std.specs.Prelude.{Some, slice_get}
 use Rattle.definitions.specs.Lists.{over, joined}
 use Rattle.definitions.specs.Refusal.{Checked, refuse, accept}
 use Rattle.definitions.specs.Table.{Table, row_room, Outcome, refused, accepted, entries, on_row, row_by_row}
@@ -12,9 +13,8 @@ use Rattle.definitions.specs.declared.Entry.{Entry}
 use Rattle.definitions.specs.Write.{Item, item_text, written_in}
 use Rattle.definitions.specs.declared.Mode.{Mode}
 use Rattle.laws.proofs.Puts.{placed, Puts, puts-length, placed-append, puts_none}
-use Rattle.columns.proofs.EntryLaws.{entry_at, entries_from, entries-end}
-use Rattle.printed.specs.Rows.{on_columns}
-use Rattle.printed.proofs.OneEntry.{written_on}
+use Rattle.columns.proofs.EntryLaws.{entries_from, entries-end}
+use Rattle.tables.proofs.Entries.{entry-taken}
 use Rattle.measures.specs.RowsMeasured.{lines_of}
 use Rattle.writer.specs.Entries.{text_from, entry_text, EntryReady}
 use Rattle.writer.specs.SecondWalk.{lines_by, lines_for, LinesReady}
@@ -37,10 +37,6 @@ front i f e es is = by (f e) (row_by_row f (i + 1) es) refl refl
     by (refuse n) os p q r = let z : ◌≡◌ {A = ℕ} 0 1 = cc in absurd (omega arith)
     by (accept x) (refused y) p q r = let z : ◌≡◌ {A = ℕ} 0 1 = cc in absurd (omega arith)
     by (accept x) (accepted xs) p q r = record { item = x; others = xs; accepts = p; after = q; together = cc }
-
-pub ready-as : {m : Mode} {t : Table} {text : List ℕ} {e e' : Entry} {at : ℕ} {o : List ℕ} → EntryReady m t text e at o → e' ≡ e
-    → EntryReady m t text e' at o
-ready-as r e = rw e r
 
 -- i rows are written
 pub record Lining (m : Mode) (t : Table) (text o : List ℕ) (i at : ℕ) (out : List ℕ) : Type 0 where
@@ -67,10 +63,14 @@ module _ {m : Mode} {t : Table} {text : List ℕ} {o : List ℕ} (r : LinesReady
       }
 
   module _ {i at : ℕ} {out : List ℕ} (g : Lining m t text o i at out) where
-    module _ (h : i < row_room t) where
-      here : Front i (written_in m t text) (entry_at t i) (drop (i + 1) (entries t)) g.left
+    module _ {x : Entry} (h : slice_get (entries t) i ≡ Some x) where
+      inside : i < row_room t
+      inside = (entry-taken t i x h).0
+
+      here : Front i (written_in m t text) x (drop (i + 1) (entries t)) g.left
       here =
-          front i (written_in m t text) (entry_at t i) (drop (i + 1) (entries t)) g.left (rw (entries_from t i h) at g.are)
+          front i (written_in m t text) x (drop (i + 1) (entries t)) g.left
+          (rw (entries_from t i inside, ← (entry-taken t i x h).1) at g.are)
 
       abbrev text-here : List ℕ
       text-here = item_text m here.item
@@ -91,19 +91,14 @@ module _ {m : Mode} {t : Table} {text : List ℕ} {o : List ℕ} (r : LinesReady
             length-append text-here (lines_of m here.others),
           )
 
-      on-columns : written_in m (on_columns t.weights t.literals) text (entry_at t i) ≡ accept here.item
-      on-columns = sym (written_on m t text (entry_at t i)) ∙ here.accepts
+      pub lining-ready : EntryReady m t text x at out
+      lining-ready = record { item = here.item; is = here.accepts; room = room-here }
 
-      pub lining-ready : EntryReady m (on_columns t.weights t.literals) text (entry_at t i) at out
-      lining-ready = record { item = here.item; is = on-columns; room = room-here }
-
-      pub lining-more : {at' : ℕ} {out' : List ℕ}
-          → Puts (entry_text m (on_columns t.weights t.literals) text (entry_at t i)) at out at' out'
-          → Lining m t text o (i + 1) at' out'
+      pub lining-more : {at' : ℕ} {out' : List ℕ} → Puts (entry_text m t text x) at out at' out' → Lining m t text o (i + 1) at' out'
       lining-more {at'} {out'} q =
-          let p : Puts text-here at out at' out' = rw (ap (text_from m) on-columns) at q in
+          let p : Puts text-here at out at' out' = rw (ap (text_from m) here.accepts) at q in
           record {
-            within = omega arith;
+            within = omega (arith, inside);
             left = here.others;
             are = here.after;
             place = omega (arith, g.place, p.place, ap length split, length-append text-here (lines_of m here.others));

@@ -1,13 +1,14 @@
 // The line of one row of the table, comments too. Assumes nothing.
 ghost use Rattle.laws.proofs.Puts.{Puts};
 ghost use Rattle.puts.specs.SeveralPuts.{LandsEach};
-ghost use Rattle.printed.specs.Rows.{entry_of, on_columns};
+ghost use Rattle.tables.specs.Lent.{table_of};
 ghost use Rattle.writer.specs.Entries.{remark_pieces, entry_text, EntryReady};
 
-use definitions::Mode;
+use definitions::{Entry, Mode};
 use lines::put_row;
 use printed::sort_of;
 use puts::put_text;
+use tables::Table;
 
 // The text behind `* `, and the line's end.
 fn put_remark(text: &[u8], out: &mut [u8], at: usize) -> usize
@@ -19,21 +20,18 @@ fn put_remark(text: &[u8], out: &mut [u8], at: usize) -> usize
 }
 
 pub(crate) fn write_entry(
-    kind: u8,
-    first: usize,
-    count: usize,
-    bound: i64,
-    weights: &[i64],
-    literals: &[u32],
+    entry: Entry,
+    t: Table<'_>,
     text: &[u8],
     mode: Mode,
     out: &mut [u8],
     at: usize,
 ) -> usize
-    requires { EntryReady mode (on_columns weights.now literals.now) text.now (entry_of kind first count bound) at out.old }
-    ensures { Puts (entry_text mode (on_columns weights.now literals.now) text.now (entry_of kind first count bound)) at out.old result out.new }
+    requires { EntryReady mode (table_of t) text.now entry at out.old }
+    ensures { Puts (entry_text mode (table_of t.entry) text.now entry) at out.old result out.new }
 {
-    match sort_of(kind, bound) {
+    let Entry { first, count, .. } = entry;
+    match sort_of(entry.kind, entry.bound) {
         Ok(None) => {
             let end = first + count;
             put_remark(&text[first..end], out, at)
@@ -42,8 +40,8 @@ pub(crate) fn write_entry(
             let end = first + count;
             put_row(
                 shape,
-                &weights[first..end],
-                &literals[first..end],
+                &t.weights[first..end],
+                &t.literals[first..end],
                 mode,
                 out,
                 at,

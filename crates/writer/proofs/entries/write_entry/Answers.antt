@@ -1,8 +1,9 @@
 -- `write_entry` meets its contract: the entry is a comment or a row, since the first walk has accepted it.
 use native.Mathlib.Omega.{arith}
 use mathlib.Core.Path.{◌≡◌}
+use borrow.Author.Rules.{rules}
 use mir.Syntax.{w64}
-use mir.Val.{to_z, of_z}
+use mir.Val.{SFits, to_z, of_z}
 use mir.Facts.{to_z-of_z}
 use Rattle.definitions.specs.Table.{sort_of, and_then}
 use Rattle.definitions.specs.Write.{allowed, written_in}
@@ -10,34 +11,28 @@ use Rattle.std.specs.Prelude.{Option, Some, None, Result, Ok}
 use Rattle.definitions.specs.declared.Fault.{Fault}
 use Rattle.printed.specs.declared.kinds.Shape.{Shape}
 use Rattle.printed.specs.Kinds.{sort_said}
-use Rattle.printed.specs.Rows.{entry_of, on_columns}
 use Rattle.printed.proofs.OneEntry.{item_for, written-by}
+use Rattle.tables.specs.Lent.{table_of}
 use Rattle.writer.proofs.OneEntry.{CommentReady, comment-ready, PartReady, part-ready, never-refused}
 use Rattle.writer.proofs.entries.write_entry.Goals as goal
 use Rattle.writer.proofs.entries.write_entry.Goals.{In-Ok-None, In-Ok-Some, Start}
 
 module _ (c : Start) where
-  written : (s : Result (Option Shape) Fault) → s ≡ sort_said (sort_of c.args.kind) (to_z w64 (of_z w64 c.args.bound))
-      → written_in c.args.mode (on_columns c.args.weights.now c.args.literals.now) c.args.text.now
-      (entry_of c.args.kind c.args.first c.args.count c.args.bound)
-      ≡ and_then (item_for s (on_columns c.args.weights.now c.args.literals.now) c.args.text.now
-      (entry_of c.args.kind c.args.first c.args.count c.args.bound)) (allowed c.args.mode)
+  written : (s : Result (Option Shape) Fault) → s ≡ sort_said (sort_of c.args.entry.kind) (to_z w64 (of_z w64 c.args.entry.bound))
+      → written_in c.args.mode (table_of c.args.t) c.args.text.now c.args.entry
+      ≡ and_then (item_for s (table_of c.args.t) c.args.text.now c.args.entry) (allowed c.args.mode)
   written s e =
-      written-by (on_columns c.args.weights.now c.args.literals.now) c.args.text.now
-      (entry_of c.args.kind c.args.first c.args.count c.args.bound) c.args.mode s (rw (to_z-of_z c.ranges.bound) at e)
+      let b : SFits w64 c.args.entry.bound = search rules in
+      written-by (table_of c.args.t) c.args.text.now c.args.entry c.args.mode s (rw (to_z-of_z b) at e)
 
-commented : (c : In-Ok-None) → let s = c.args in
-    CommentReady s.mode s.weights.now s.literals.now s.text.now s.kind s.first s.count s.bound c.requires
+commented : (c : In-Ok-None) → CommentReady c.args.mode (table_of c.args.t) c.args.text.now c.args.entry c.requires
 commented c =
-    let s = c.args in
-    comment-ready s.mode s.weights.now s.literals.now s.text.now s.kind s.first s.count s.bound c.requires
+    comment-ready c.args.mode (table_of c.args.t) c.args.text.now c.args.entry c.requires
     (written (goal.at.In-Ok-None c).Start (Ok None) (rw c.in-Ok-None.field-0-is at c.in-Ok-None.ensures))
 
-rowed : (c : In-Ok-Some) → let s = c.args in
-    PartReady s.mode s.weights.now s.literals.now s.text.now s.kind s.first s.count s.bound c.requires c.in-Ok-Some.shape
+rowed : (c : In-Ok-Some) → PartReady c.args.mode (table_of c.args.t) c.args.text.now c.args.entry c.requires c.in-Ok-Some.shape
 rowed c =
-    let s = c.args in
-    part-ready s.mode s.weights.now s.literals.now s.text.now s.kind s.first s.count s.bound c.requires
+    part-ready c.args.mode (table_of c.args.t) c.args.text.now c.args.entry c.requires
     _ (written (goal.at.In-Ok-Some c).Start (Ok (Some c.in-Ok-Some.shape)) (rw c.in-Ok-Some.field-0-is at c.in-Ok-Some.ensures))
 
 pub overflow_add-end : goal.overflow_add-end
@@ -49,14 +44,14 @@ slice_bounds-put_remark-end c = (commented c).inside
 pub overflow_add-end-in-Ok-Some : goal.overflow_add-end-in-Ok-Some
 overflow_add-end-in-Ok-Some c = omega (arith, (rowed c).inside)
 
-pub offset_bounds-weights-first : goal.offset_bounds-weights-first
-offset_bounds-weights-first c = omega (arith, (rowed c).inside)
+pub offset_bounds-t-first : goal.offset_bounds-t-first
+offset_bounds-t-first c = omega (arith, (rowed (goal.at.offset_bounds-t-first c).In-Ok-Some).inside)
 
-pub offset_bounds-literals-first : goal.offset_bounds-literals-first
-offset_bounds-literals-first c = omega (arith, (rowed (goal.at.offset_bounds-literals-first c).In-Ok-Some).inside)
+pub offset_bounds-t-first-in-Ok-Some : goal.offset_bounds-t-first-in-Ok-Some
+offset_bounds-t-first-in-Ok-Some c = omega (arith, (rowed (goal.at.offset_bounds-t-first-in-Ok-Some c).In-Ok-Some).inside)
 
 pub slice_bounds-put_row-end : goal.slice_bounds-put_row-end
-slice_bounds-put_row-end c = omega (arith, (rowed c).inside)
+slice_bounds-put_row-end c = omega (arith, (rowed (goal.at.slice_bounds-put_row-end c).In-Ok-Some).inside)
 
 pub slice_bounds-put_row-end-in-Ok-Some : goal.slice_bounds-put_row-end-in-Ok-Some
 slice_bounds-put_row-end-in-Ok-Some c = omega (arith, (rowed (goal.at.slice_bounds-put_row-end-in-Ok-Some c).In-Ok-Some).inside)
@@ -69,6 +64,5 @@ returns-in-Ok-Some c = (rowed (goal.at.returns-in-Ok-Some c).In-Ok-Some).puts c.
 
 pub returns-in-Err : goal.returns-in-Err
 returns-in-Err c =
-    let s = c.args in
-    never-refused s.mode s.weights.now s.literals.now s.text.now s.kind s.first s.count s.bound c.requires
+    never-refused c.args.mode (table_of c.args.t) c.args.text.now c.args.entry c.requires
     (written (goal.at.returns-in-Err c).Start _ c.in-Err.ensures)
