@@ -18,6 +18,7 @@ use Rattle.definitions.specs.Answers.{said_counted}
 use Rattle.reader.proofs.parse_opb_data.Reads as parse-opb-data
 use Rattle.definitions.specs.Answers.{said_length}
 use Rattle.writer.proofs.write_opb_lines.Reads as write-opb-lines
+use Rattle.tables.specs.Lent.{table_of}
 
 -- an output of 100 bytes
 unfoldable pub zeros : ℕ → List ℕ
@@ -37,10 +38,9 @@ Answered (reads first s) (text o) = ⊥
 Answered (writes m k n b ws ls) (lines o) = ⊥
 Answered (writes m k n b ws ls) (text o) =
     (κs : _) (a : _) (r : _) (z : _) → write-opb-lines.Post κs a r z
-    → table a.0.now a.1.0.now a.1.1.0.now a.1.1.1.0.now a.1.1.1.1.0.now a.1.1.1.1.1.0.now
-    ≡ table (k ∷ []) (0 ∷ []) (n ∷ []) (b ∷ []) ws ls
-    → a.1.1.1.1.1.1.0.now ≡ [] → a.1.1.1.1.1.1.1.0 ≡ mode_from 1 m → a.1.1.1.1.1.1.1.1.0.now ≡ zeros 100
-    → (said_length r ≡ length_of o) × (z.1.1.1.1.1.1.1.1.0.now ≡ output_after o (zeros 100))
+    → table_of a.0 ≡ table (k ∷ []) (0 ∷ []) (n ∷ []) (b ∷ []) ws ls
+    → a.1.0.now ≡ [] → a.1.1.0 ≡ mode_from 1 m → a.1.1.1.0.now ≡ zeros 100
+    → (said_length r ≡ length_of o) × (z.1.1.1.0.now ≡ output_after o (zeros 100))
 
 -- the same of what was lent and of what a question asks
 same-reading : {x y : Options} {s s' : List ℕ} {t t' : Table} {r : Outcome Totals} → r ≡ counted (reading x s t) → x ≡ y → s ≡ s'

@@ -35,6 +35,7 @@ use Rattle.evaluator.proofs.judge.Reads as judge
 use Rattle.assigned.specs.WordsSay.{looked}
 use Rattle.values.specs.Reads.{ReadsValues}
 use Rattle.values.proofs.read_values.Reads as read-values
+use Rattle.tables.specs.Lent.{table_of}
 use Rattle.promise.proofs.Lent.{columns, mut_columns}
 
 -- ---- What the code promises. `Post` is the contract that the prover makes of the source, over what a call is lent
@@ -48,8 +49,7 @@ reading-as-defined κs a r s p = p
 
 -- Writing: answer and output afterwards are those of `writing`. A refused call changes no byte.
 pub writing-as-defined : (κs : _) (a : _) (r : _) (s : _) → write-opb-lines.Post κs a r s
-    → Writes a.1.1.1.1.1.1.1.0 (columns a) a.1.1.1.1.1.1.0.now a.1.1.1.1.1.1.1.1.0.now r
-    s.1.1.1.1.1.1.1.1.0.now
+    → Writes a.1.1.0 (table_of a.0) a.1.0.now a.1.1.1.0.now r s.1.1.1.0.now
 writing-as-defined κs a r s p = p
 
 -- Listing a table's first rows: answer and output afterwards are those of `listing_table`. A refused call changes no

@@ -2,14 +2,10 @@
 -- (proofs/Laws.antt).
 use Rattle.std.proofs.lemmas.Result.{err_from_is_err_and}
 use Rattle.definitions.specs.Table.{Table, table}
+use Rattle.tables.specs.Lent.{table_of}
 use Rattle.promise.proofs.Laws.{not-back, text-within, part_length, came-back}
 use Rattle.promise.proofs.there_and_back.Goals as goal
 use Rattle.promise.proofs.there_and_back.Goals.{Start}
-
-abbrev rows_of : Start → Table
-rows_of s =
-    table s.args.kinds.now s.args.firsts.now s.args.counts.now s.args.bounds.now s.args.weights.now
-    s.args.literals.now
 
 abbrev new-of : Start → Table
 new-of s =
@@ -20,22 +16,22 @@ pub returns-in_err-back : goal.returns-in_err-back
 returns-in_err-back c =
     let s = (goal.at.returns-in_err-back c).Start in
     let p = err_from_is_err_and c.from_residual.result c.from_residual.ensures.1 in
-    rw (p.1, p.2) (not-back s.args.mode (rows_of s) s.args.text.now s.args.out.now (new-of s) _ c.in_err-back.ensures)
+    rw (p.1, p.2) (not-back s.args.mode (table_of s.args.t) s.args.text.now s.args.out.now (new-of s) _ c.in_err-back.ensures)
 
 pub slice_bounds-parse_opb_data-end : goal.slice_bounds-parse_opb_data-end
 slice_bounds-parse_opb_data-end c =
     let s = (goal.at.slice_bounds-parse_opb_data-end c).Start in
-    text-within s.args.mode (rows_of s) s.args.text.now s.args.out.now (new-of s) c.in_ok-back.back c.in_ok-back.ensures _ _
+    text-within s.args.mode (table_of s.args.t) s.args.text.now s.args.out.now (new-of s) c.in_ok-back.back c.in_ok-back.ensures _ _
     c.write_opb_lines-written.ensures
 
 pub slice_bounds-parse_opb_data-end-2 : goal.slice_bounds-parse_opb_data-end-2
 slice_bounds-parse_opb_data-end-2 c =
     let s = (goal.at.slice_bounds-parse_opb_data-end-2 c).Start in
-    part_length s.args.mode (rows_of s) s.args.text.now s.args.out.now (new-of s) c.in_ok-back.back c.in_ok-back.ensures _ _
+    part_length s.args.mode (table_of s.args.t) s.args.text.now s.args.out.now (new-of s) c.in_ok-back.back c.in_ok-back.ensures _ _
     c.write_opb_lines-written.ensures
 
 pub returns : goal.returns
 returns c =
     let s = (goal.at.returns c).Start in
-    came-back s.args.mode (rows_of s) s.args.text.now s.args.out.now (new-of s) c.in_ok-back.back c.in_ok-back.ensures _ _
+    came-back s.args.mode (table_of s.args.t) s.args.text.now s.args.out.now (new-of s) c.in_ok-back.back c.in_ok-back.ensures _ _
     c.write_opb_lines-written.ensures _ _ c.parse_opb_data-read.ensures
