@@ -134,3 +134,31 @@ module _ (first : ℕ) (ws : List ℤ) (cs : List ℕ) where
               (cond x (accept (row (row_of (read_kind k) b (terms_on ws cs)))) (refuse 5))
           by true h = ap accept (counted cc)
           by false h = never (cc)
+
+-- the size of the line of an entry that is a row, its terms from their part of the two columns
+module _ (first : ℕ) (ws : List ℤ) (cs : List ℕ) (e : Entry) (pos : 0 < e.kind) (g : e.kind ≤ 4)
+    (i : in_column (on first ws cs e) e ≡ true) where
+  abbrev us : List ℤ
+  us = weights_at (on first ws cs e) e
+
+  abbrev ds : List ℕ
+  ds = literals_at (on first ws cs e) e
+
+  long : length us ≡ length ds
+  long = weights-at-count (on first ws cs e) e i ∙ sym (literals-at-count (on first ws cs e) e i)
+
+  is-row : size_in first (row_on first e.kind e.bound us ds) ≡ size_in first (line_on first ws cs e)
+  is-row = ap (size_in first) (sym (inside-entry first ws cs e (λ z. omega (arith, z)) g i))
+
+  pub line-refused : codes_indexed ds ≡ false → refuse 11 ≡ size_in first (line_on first ws cs e)
+  line-refused q = row-refused first us ds e.kind e.bound long q ∙ is-row
+
+  module _ (r : Option ℕ) (q : codes_indexed ds ≡ true) (l : said_terms_length r ≡ terms_length first (terms_on us ds)) where
+    pub line-unnumbered : r ≡ None → refuse 5 ≡ size_in first (line_on first ws cs e)
+    line-unnumbered x = row-unnumbered first us ds e.kind e.bound long r q l x ∙ is-row
+
+    pub line-sized : (m t : ℕ) → r ≡ Some t → m ≡ line_length e.kind e.count e.bound t
+        → accept (record { terms = e.count; length = m }) ≡ size_in first (line_on first ws cs e)
+    line-sized m t x s =
+        row_sized first us ds e.kind e.bound long r q l e.count m t pos x (sym (literals-at-count (on first ws cs e) e i)) s
+        ∙ is-row

@@ -1,4 +1,5 @@
 -- The rows of a table one by one, and the walk that measures them: what is counted after some rows.
+use Rattle.std.specs.Prelude.{Some, slice_get}
 use mathlib.Core.Path.{◌≡◌, refl, sym, ap, ◌∙◌}
 use mathlib.Core.List.{List, [], ◌∷◌, ◌++◌}
 use Prim.Native.Nat.{ℕ, ◌+◌, ◌≤◌, ◌<◌, min}
@@ -14,6 +15,7 @@ use Rattle.definitions.proofs.Columns.{joined_snoc, Passed, passed_none, passed-
 use Rattle.laws.proofs.Puts.{drop-in-take}
 use Rattle.definitions.proofs.Truths.{never}
 use Rattle.columns.proofs.EntryLaws.{entry_at, entries-count, entries_from}
+use Rattle.tables.proofs.Entries.{entry-taken}
 use Rattle.house_lengths.proofs.Fields.{needed-more, needed-more-yet}
 use Rattle.house_measures.specs.declared.rows.Size.{Size}
 use Rattle.house_measures.specs.Lines.{line_on, lines_of}
@@ -43,8 +45,11 @@ by-columns first t e = ap (λ (c : Checked Line). and_then c (listed_line first)
 module _ (t : Table) (n : ℕ) where
   -- ---- the entries of the first n rows
 
-  pub next-entry : (i : ℕ) → i < n → i < row_room t → drop i (take n (entries t)) ≡ entry_at t i ∷ drop (i + 1) (take n (entries t))
-  next-entry i h g = drop-in-take (entries t) n i (entry_at t i) h (entries_from t i g)
+  pub next-entry : (i : ℕ) (e : Entry) → i < n → slice_get (entries t) i ≡ Some e
+      → drop i (take n (entries t)) ≡ e ∷ drop (i + 1) (take n (entries t))
+  next-entry i e h g =
+      let p = entry-taken t i e g in
+      rw p.1 (drop-in-take (entries t) n i (entry_at t i) h (entries_from t i p.0))
 
   pub no-entry : (i : ℕ) → min n (row_room t) ≤ i → drop i (take n (entries t)) ≡ []
   no-entry i h =
@@ -65,34 +70,34 @@ module _ (t : Table) (n : ℕ) where
   measures-none first = record { lines = []; rows = passed_none (listed_entry first t) (take n (entries t)); terms = refl; length = refl }
 
   module _ (first i : ℕ) (all : Size) (m : Measures first i all) where
-    module _ (h : i < n) (g : i < row_room t) where
-      here : listed_entry first t (entry_at t i) ≡ line_on first t.weights t.literals (entry_at t i)
-      here = by-columns first t (entry_at t i)
+    module _ (h : i < n) (a : Entry) (g : slice_get (entries t) i ≡ Some a) where
+      here : listed_entry first t a ≡ line_on first t.weights t.literals a
+      here = by-columns first t a
 
-      pub measures-refused : (k : ℕ) → refuse k ≡ size_in first (line_on first t.weights t.literals (entry_at t i))
+      pub measures-refused : (k : ℕ) → refuse k ≡ size_in first (line_on first t.weights t.literals a)
           → refused (refusal k i) ≡ sizes_in first (lines_of first n t)
       measures-refused k e =
           rw
-          (passed-refused (listed_entry first t) (take n (entries t)) i m.lines m.rows (entry_at t i) (next-entry i h g) k
+          (passed-refused (listed_entry first t) (take n (entries t)) i m.lines m.rows a (next-entry i a h g) k
           (here ∙ refused-size first k _ e))
 
-      pub measures-more : (s : Size) (p q : ℕ) → accept s ≡ size_in first (line_on first t.weights t.literals (entry_at t i))
+      pub measures-more : (s : Size) (p q : ℕ) → accept s ≡ size_in first (line_on first t.weights t.literals a)
           → p ≡ needed (all.terms + s.terms) → q ≡ needed (all.length + s.length) → Measures first (i + 1)
           (record { terms = p; length = q })
-      measures-more s p q e a b =
-          let x = accepted-size first (line_on first t.weights t.literals (entry_at t i)) s e in
+      measures-more s p q e u v =
+          let x = accepted-size first (line_on first t.weights t.literals a) s e in
           let l = x.line in
           record {
             lines = m.lines ++ (l ∷ []);
             rows =
-                passed-more (listed_entry first t) (take n (entries t)) i m.lines m.rows (entry_at t i) (next-entry i h g) l
+                passed-more (listed_entry first t) (take n (entries t)) i m.lines m.rows a (next-entry i a h g) l
                 (here ∙ x.is);
             terms =
-                needed-more (all_terms m.lines) (terms_of l) m.terms (ap (λ (z : Size). z.terms) x.size) a
+                needed-more (all_terms m.lines) (terms_of l) m.terms (ap (λ (z : Size). z.terms) x.size) u
                 ∙ ap (λ (r : List Term). needed (length r)) (sym (joined_snoc terms_of m.lines l));
             length =
                 needed-more-yet (joined (house_line first) m.lines) (house_line first l) m.length
-                (ap (λ (z : Size). z.length) x.size) b
+                (ap (λ (z : Size). z.length) x.size) v
                 ∙ ap (λ (r : List ℕ). needed (length r)) (sym (joined_snoc (house_line first) m.lines l));
           }
 

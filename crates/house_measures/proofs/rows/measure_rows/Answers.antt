@@ -2,30 +2,34 @@
 use native.Mathlib.Omega.{arith}
 use mathlib.Core.Path.{sym, ap, ◌∙◌}
 use Prim.Native.Nat.{min}
-use borrow.Author.Rules.{sfits_of}
-use mir.Facts.{to_z-of_z}
-use Rattle.house_measures.specs.Sizes.{said_size}
+use Rattle.tables.specs.Lent.{table_of}
+use Rattle.tables.proofs.Entries.{entry-ended}
 use Rattle.house_measures.proofs.RowsWalk.{measures-none, measures-refused, measures-more, measures-all}
 use Rattle.house_measures.proofs.rows.measure_rows.Goals as goal
 
-pub loop-i-init : goal.loop-i-init
-loop-i-init c = measures-none _ _ _
+pub loop-row-init : goal.loop-row-init
+loop-row-init c = measures-none _ _ _
 
 pub returns-in-Err : goal.returns-in-Err
 returns-in-Err c =
-    let t = c.loop-i in
-    measures-refused _ _ _ t.i t.all t.invariant (omega arith) (omega arith) _
-    (sym (ap said_size c.in-Err.is) ∙ rw (to_z-of_z (sfits_of c.measure_row-arg-1.given)) at c.measure_row.ensures)
+    let l = c.loop-row in
+    measures-refused _ _ _ l.row l.all l.invariant (omega arith) _ (sym c.in-Some.ensures) _ c.in-Err.ensures
 
-pub loop-i-preserved : goal.loop-i-preserved
-loop-i-preserved c =
-    let t = c.loop-i in
-    measures-more _ _ _ t.i t.all t.invariant (omega arith) (omega arith) _ _ _
-    (sym (ap said_size c.in-Ok.is) ∙ rw (to_z-of_z (sfits_of c.measure_row-arg-1.given)) at c.measure_row.ensures)
+pub loop-row-preserved : goal.loop-row-preserved
+loop-row-preserved c =
+    let l = c.loop-row in
+    measures-more _ _ _ l.row l.all l.invariant (omega arith) _ (sym c.in-Some.ensures) _ _ _ c.in-Ok.ensures
     c.add_needed.ensures c.add_needed-in-Ok.ensures
 
-pub returns : goal.returns
-returns c =
-    let t = c.loop-i in
-    measures-all _ _ _ t.i t.all t.invariant c.min-n.result (c.min-n.ensures ∙ ap (min c.args.rows) c.row_room.ensures)
+pub returns-after-loop-row : goal.returns-after-loop-row
+returns-after-loop-row c =
+    let l = c.loop-row in
+    measures-all _ _ _ l.row l.all l.invariant c.min-n.result (c.min-n.ensures ∙ ap (min c.args.rows) c.row_room.ensures)
     (omega arith) (omega arith)
+
+-- no row is left where there is no entry
+pub returns-in_default : goal.returns-in_default
+returns-in_default c =
+    let l = c.loop-row in
+    measures-all _ _ _ l.row l.all l.invariant c.min-n.result (c.min-n.ensures ∙ ap (min c.args.rows) c.row_room.ensures)
+    (omega arith) (omega (arith, entry-ended (table_of c.args.t) l.row (sym c.in_default.ensures), c.min-n.ensures, c.row_room.ensures))

@@ -1,7 +1,7 @@
 -- `measure_rows` meets its contract: each turn counts one row (`Measures`, proofs/RowsWalk.antt).
-use Rattle.definitions.specs.Table.{table}
+use Rattle.tables.specs.Lent.{table_of}
 use Rattle.house_measures.proofs.RowsWalk.{Measures}
 use Rattle.house_measures.proofs.rows.measure_rows.Given as goal
 
-abbrev pub invariant-loop-i : goal.invariant-loop-i
-invariant-loop-i l = Measures (table l.kinds l.firsts l.counts l.bounds l.weights l.literals) l.rows l.first l.i l.all
+abbrev pub invariant-loop-row : goal.invariant-loop-row
+invariant-loop-row l = Measures (table_of l.t) l.rows l.first l.row l.all
