@@ -1,4 +1,5 @@
 -- The walk that puts the rows of a table: what is put after some rows.
+use Rattle.std.specs.Prelude.{Some, slice_get}
 use mathlib.Core.Path.{◌≡◌, sym, ap, ◌∙◌}
 use mathlib.Core.List.{List, [], ◌∷◌, ◌++◌}
 use Prim.Native.Nat.{ℕ, ◌+◌, ◌≤◌, ◌<◌}
@@ -8,11 +9,11 @@ use Rattle.definitions.specs.Lists.{joined}
 use Rattle.definitions.specs.Refusal.{accept}
 use Rattle.definitions.specs.Row.{Line}
 use Rattle.definitions.specs.Table.{Table, accepted, entries}
+use Rattle.definitions.specs.declared.Entry.{Entry}
 use Rattle.definitions.specs.House.{house_line, listed_entry}
 use Rattle.definitions.proofs.Columns.{joined-append, joined_snoc, Begins, Passed, passed_none, passed-all, passed-more}
 use Rattle.definitions.proofs.Columns.{Next, passed-next, passed-begins}
 use Rattle.laws.proofs.Puts.{Puts, puts_none, puts_then, puts-length, puts-as}
-use Rattle.columns.proofs.EntryLaws.{entry_at}
 use Rattle.house_measures.specs.Lines.{line_on, lines_of}
 use Rattle.house_measures.proofs.RowsWalk.{by-columns, next-entry, no-entry}
 use Rattle.house.specs.Ready.{RowReady, RowsReady}
@@ -31,16 +32,16 @@ module _ (t : Table) (n : ℕ) where
 
   module _ {first at : ℕ} {o : List ℕ} (r : RowsReady first n t at o) {i : ℕ} {out : List ℕ} {end : ℕ}
       (p : Putting first at o i out end) where
-    module _ (h : i < n) where
-      here : drop i (take n (entries t)) ≡ entry_at t i ∷ drop (i + 1) (take n (entries t))
-      here = next-entry t n i h (omega (arith, r.within))
+    module _ (h : i < n) (a : Entry) (g : slice_get (entries t) i ≡ Some a) where
+      here : drop i (take n (entries t)) ≡ a ∷ drop (i + 1) (take n (entries t))
+      here = next-entry t n i a h g
 
-      abbrev next : Next (listed_entry first t) (take n (entries t)) i p.lines p.rows (entry_at t i) here r.lines r.are
-      next = passed-next (listed_entry first t) (take n (entries t)) i p.lines p.rows (entry_at t i) here r.lines r.are
+      abbrev next : Next (listed_entry first t) (take n (entries t)) i p.lines p.rows a here r.lines r.are
+      next = passed-next (listed_entry first t) (take n (entries t)) i p.lines p.rows a here r.lines r.are
 
       more : Passed (listed_entry first t) (take n (entries t)) (i + 1) (p.lines ++ (next.value ∷ []))
       more =
-          passed-more (listed_entry first t) (take n (entries t)) i p.lines p.rows (entry_at t i) here next.value next.accepts
+          passed-more (listed_entry first t) (take n (entries t)) i p.lines p.rows a here next.value next.accepts
 
       begins : Begins (p.lines ++ (next.value ∷ [])) r.lines
       begins = passed-begins (listed_entry first t) (take n (entries t)) (i + 1) (p.lines ++ (next.value ∷ [])) more r.lines r.are
@@ -58,10 +59,10 @@ module _ (t : Table) (n : ℕ) where
             length-append (text p.lines) (house_line first next.value),
           )
 
-      accepts : line_on first t.weights t.literals (entry_at t i) ≡ accept next.value
-      accepts = sym (by-columns first t (entry_at t i)) ∙ next.accepts
+      accepts : line_on first t.weights t.literals a ≡ accept next.value
+      accepts = sym (by-columns first t a) ∙ next.accepts
 
-      pub putting-ready : RowReady first t.weights t.literals (entry_at t i) end out
+      pub putting-ready : RowReady first t.weights t.literals a end out
       putting-ready =
           record {
             line = next.value;
@@ -70,7 +71,7 @@ module _ (t : Table) (n : ℕ) where
           }
 
       pub putting-more : {out' : List ℕ} {end' : ℕ}
-          → ((l : Line) → line_on first t.weights t.literals (entry_at t i) ≡ accept l → Puts (house_line first l) end out end' out')
+          → ((l : Line) → line_on first t.weights t.literals a ≡ accept l → Puts (house_line first l) end out end' out')
           → Putting first at o (i + 1) out' end'
       putting-more f =
           record {

@@ -3,12 +3,11 @@ use Rattle.std.specs.Prelude.{ℕ, ◌+◌, ◌≤◌, ◌≡◌, true, List, �
 use Rattle.definitions.specs.Lists.{joined}
 use Rattle.definitions.specs.Refusal.{accept}
 use Rattle.definitions.specs.Literal.{index_of, file_number}
-use Rattle.definitions.specs.Row.{term, Line, row, row_of}
+use Rattle.definitions.specs.Row.{term, Line}
 use Rattle.definitions.specs.Table.{Table, row_room, accepted, terms_on}
 use Rattle.definitions.specs.declared.Entry.{Entry}
 use Rattle.definitions.specs.Write.{is_accepted, numbered}
 use Rattle.definitions.specs.House.{term_fields, house_line}
-use Rattle.columns.specs.Kinds.{read_kind}
 use Rattle.house_measures.specs.Lines.{line_on, lines_of}
 
 -- a term whose variable has a file number
@@ -21,12 +20,6 @@ pub record TermsReady (first : ℕ) (ws : List ℤ) (cs : List ℕ) (at : ℕ) (
   pub long : length ws ≡ length cs
   pub numbers : numbered first (terms_on ws cs) ≡ true
   pub room : at + length (joined (term_fields first) (terms_on ws cs)) ≤ length o
-
--- a row of a kind
-pub record LineReady (first k : ℕ) (b : ℤ) (ws : List ℤ) (cs : List ℕ) (at : ℕ) (o : List ℕ) : Type 0 where
-  pub long : length ws ≡ length cs
-  pub numbers : numbered first (terms_on ws cs) ≡ true
-  pub room : at + length (house_line first (row (row_of (read_kind k) b (terms_on ws cs)))) ≤ length o
 
 -- a row of a table with these two columns
 pub record RowReady (first : ℕ) (ws : List ℤ) (cs : List ℕ) (e : Entry) (at : ℕ) (o : List ℕ) : Type 0 where

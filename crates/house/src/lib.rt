@@ -6,28 +6,17 @@
 mod lines;
 mod terms;
 
-ghost use Rattle.definitions.specs.Table.{table};
 ghost use Rattle.house.specs.ListsTable.{Lists};
+ghost use Rattle.tables.specs.Lent.{table_of};
 
 use definitions::Refusal;
+use tables::Table;
 
 // The lines of the first `rows` rows. Row by row 11, then 5; then 14 with the length needed.
-pub fn list_table(
-    kinds: &[u8],
-    firsts: &[usize],
-    counts: &[usize],
-    bounds: &[i64],
-    weights: &[i64],
-    literals: &[u32],
-    rows: usize,
-    first: u32,
-    out: &mut [u8],
-) -> Result<usize, Refusal>
-    ensures { Lists first rows (table kinds.now firsts.now counts.now bounds.now weights.now literals.now) out.old result out.new }
+pub fn list_table(t: Table<'_>, rows: usize, first: u32, out: &mut [u8]) -> Result<usize, Refusal>
+    ensures { Lists first rows (table_of t.entry) out.old result out.new }
 {
-    let (n, size) = house_measures::measure_rows(
-        kinds, firsts, counts, bounds, weights, literals, rows, first,
-    )?;
+    let (n, size) = house_measures::measure_rows(t, rows, first)?;
     let length = house_lengths::text_length(n, size.terms, size.length, first);
     if length > out.len() as u64 {
         return Err(Refusal {
@@ -36,7 +25,5 @@ pub fn list_table(
         });
     }
     let at = lines::put_head(n, size.terms, first, out);
-    Ok(lines::put_rows(
-        kinds, firsts, counts, bounds, weights, literals, n, first, out, at,
-    ))
+    Ok(lines::put_rows(t, n, first, out, at))
 }

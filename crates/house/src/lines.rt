@@ -1,20 +1,22 @@
 // The second walk: the head and the lines of rows that the first walk has accepted, into an output that has room for
 // all of it. Assumes nothing.
-ghost use Rattle.std.specs.Prelude.{◌≡◌, List, ◌+◌, ◌≤◌, length};
+ghost use Rattle.std.specs.Prelude.{◌≡◌, List, ◌+◌, ◌<◌, ◌≤◌, true, length};
 ghost use Rattle.definitions.specs.Lists.{joined};
 ghost use Rattle.definitions.specs.Refusal.{accept};
-ghost use Rattle.definitions.specs.Row.{Line, row, row_of};
-ghost use Rattle.definitions.specs.Table.{table, accepted, terms_on};
+ghost use Rattle.definitions.specs.Row.{Line};
+ghost use Rattle.definitions.specs.Table.{accepted, in_column};
 ghost use Rattle.definitions.specs.House.{house_line};
 ghost use Rattle.laws.proofs.Puts.{Puts};
 ghost use Rattle.columns.specs.Kinds.{read_kind};
 ghost use Rattle.house_lengths.specs.Words.{head_text, comment_line, word_field};
 ghost use Rattle.house_measures.specs.Lines.{line_on, lines_of};
-ghost use Rattle.house.specs.Ready.{LineReady, RowReady, RowsReady};
+ghost use Rattle.house.specs.Ready.{RowReady, RowsReady};
+ghost use Rattle.tables.specs.Lent.{table_of};
 
 use crate::terms::put_terms;
-use definitions::{AT_LEAST, AT_MOST, COMMENT, EQUAL};
+use definitions::{AT_LEAST, AT_MOST, COMMENT, EQUAL, Entry};
 use puts::{put_field, put_number, put_text};
+use tables::Table;
 
 // "The first line is rows, terms, first index."
 pub(crate) fn put_head(rows: usize, terms: u64, first: u32, out: &mut [u8]) -> usize
@@ -54,76 +56,43 @@ fn put_word(kind: u8, out: &mut [u8], at: usize) -> usize
 }
 
 // A row of a read kind, from its part of the two columns.
-fn put_line(
-    kind: u8,
-    bound: i64,
-    weights: &[i64],
-    literals: &[u32],
-    first: u32,
-    out: &mut [u8],
-    at: usize,
-) -> usize
-    requires { LineReady first kind bound weights.now literals.now at out.old }
-    ensures { Puts (house_line first (row (row_of (read_kind kind) bound (terms_on weights.now literals.now)))) at out.old result out.new }
+fn put_line(entry: Entry, t: Table<'_>, first: u32, out: &mut [u8], at: usize) -> usize
+    requires { (0 < entry.kind) × (in_column (table_of t) entry ≡ true) × RowReady first t.weights.now t.literals.now entry at out.old }
+    ensures { (l : Line) → line_on first t.entry.weights.now t.entry.literals.now entry ≡ accept l
+        → Puts (house_line first l) at out.old result out.new }
 {
-    let a = put_word(kind, out, at);
-    let b = put_number(bound, out, a);
+    let last = entry.first + entry.count;
+    let weights = &t.weights[entry.first..last];
+    let literals = &t.literals[entry.first..last];
+    let a = put_word(entry.kind, out, at);
+    let b = put_number(entry.bound, out, a);
     let end = put_terms(weights, literals, first, out, b);
     out[end] = b'\n';
     end + 1
 }
 
-fn put_row(
-    kind: u8,
-    start: usize,
-    count: usize,
-    bound: i64,
-    weights: &[i64],
-    literals: &[u32],
-    first: u32,
-    out: &mut [u8],
-    at: usize,
-) -> usize
-    requires { RowReady first weights.now literals.now (record { kind = kind; first = start; count = count; bound = bound }) at out.old }
-    ensures { (l : Line) → line_on first weights.now literals.now (record { kind = kind; first = start; count = count; bound = bound }) ≡ accept l
+fn put_row(entry: Entry, t: Table<'_>, first: u32, out: &mut [u8], at: usize) -> usize
+    requires { RowReady first t.weights.now t.literals.now entry at out.old }
+    ensures { (l : Line) → line_on first t.entry.weights.now t.entry.literals.now entry ≡ accept l
         → Puts (house_line first l) at out.old result out.new }
 {
-    if kind == COMMENT {
-        return put_comment(count, out, at);
+    if entry.kind == COMMENT {
+        return put_comment(entry.count, out, at);
     }
-    let end = start + count;
-    put_line(
-        kind,
-        bound,
-        &weights[start..end],
-        &literals[start..end],
-        first,
-        out,
-        at,
-    )
+    put_line(entry, t, first, out, at)
 }
 
-pub(crate) fn put_rows(
-    kinds: &[u8],
-    firsts: &[usize],
-    counts: &[usize],
-    bounds: &[i64],
-    weights: &[i64],
-    literals: &[u32],
-    rows: usize,
-    first: u32,
-    out: &mut [u8],
-    at: usize,
-) -> usize
-    requires { RowsReady first rows (table kinds.now firsts.now counts.now bounds.now weights.now literals.now) at out.old }
-    ensures { (ls : List Line) → lines_of first rows (table kinds.now firsts.now counts.now bounds.now weights.now literals.now) ≡ accepted ls
+pub(crate) fn put_rows(t: Table<'_>, rows: usize, first: u32, out: &mut [u8], at: usize) -> usize
+    requires { RowsReady first rows (table_of t) at out.old }
+    ensures { (ls : List Line) → lines_of first rows (table_of t.entry) ≡ accepted ls
         → Puts (joined (house_line first) ls) at out.old result out.new }
 {
     let mut end = at;
-    for i in 0..rows {
-        end = put_row(
-            kinds[i], firsts[i], counts[i], bounds[i], weights, literals, first, out, end,
-        );
+    for row in 0..rows {
+        let Some(entry) = t.entry(row) else {
+            break;
+        };
+        end = put_row(entry, t, first, out, end);
     }
     end
 }
