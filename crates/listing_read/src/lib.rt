@@ -6,6 +6,7 @@ ghost use Rattle.definitions.specs.Table.{table};
 ghost use Rattle.listing_read.specs.ListsRead.{ListsRead};
 
 use definitions::Options;
+use tables::Table;
 
 // Where the lines do not fit, the output stays as it is; the columns hold what was read all the same.
 pub fn list_read(
@@ -28,9 +29,15 @@ pub fn list_read(
     ) {
         Ok(found) => {
             // What it answers is not asked: the lines lie in the output, or do not fit and it stays.
-            let _ = house::list_table(
-                kinds, firsts, counts, bounds, weights, literals, found.rows, first, out,
-            );
+            let t = Table {
+                kinds,
+                firsts,
+                counts,
+                bounds,
+                weights,
+                literals,
+            };
+            let _ = house::list_table(t, found.rows, first, out);
         }
         Err(e) => {
             refusals::list_refusal(e.number, e.place, out);

@@ -86,7 +86,13 @@ pub extern "C" fn opb_list(
 ) -> OpbText
     ensures { ListsTable first rows (table kinds.now firsts.now counts.now bounds.now weights.now literals.now) out.old result out.new }
 {
-    text_answer(house::list_table(
-        kinds, firsts, counts, bounds, weights, literals, rows, first, out,
-    ))
+    let t = Table {
+        kinds,
+        firsts,
+        counts,
+        bounds,
+        weights,
+        literals,
+    };
+    text_answer(house::list_table(t, rows, first, out))
 }

@@ -7,6 +7,7 @@
 use definitions::{Entry, Options, Refusal, Totals};
 use std::io;
 use std::io::Write;
+use tables::Table;
 use walker::Step;
 
 // "up to 4,096 rows and 8,192 terms"
@@ -84,13 +85,15 @@ fn print_row<O: Write, E: Write>(
     literals: &[u32],
     out: &mut [u8],
 ) -> io::Result<bool> {
-    let kinds = [entry.kind; 1];
-    let firsts = [0usize; 1];
-    let counts = [entry.count; 1];
-    let bounds = [entry.bound; 1];
-    match house::list_table(
-        &kinds, &firsts, &counts, &bounds, weights, literals, 1, 1, out,
-    ) {
+    let t = Table {
+        kinds: &[entry.kind],
+        firsts: &[0],
+        counts: &[entry.count],
+        bounds: &[entry.bound],
+        weights,
+        literals,
+    };
+    match house::list_table(t, 1, 1, out) {
         Err(_) => {
             streams::say(
                 errors,
