@@ -55,8 +55,7 @@ writing-as-defined κs a r s p = p
 -- Listing a table's first rows: answer and output afterwards are those of `listing_table`. A refused call changes no
 -- byte.
 pub listing-as-defined : (κs : _) (a : _) (r : _) (s : _) → list-table.Post κs a r s
-    → Lists a.1.1.1.1.1.1.1.0 a.1.1.1.1.1.1.0 (columns a) a.1.1.1.1.1.1.1.1.0.now r
-    s.1.1.1.1.1.1.1.1.0.now
+    → Lists a.1.1.0 a.1.0 (Rattle.tables.specs.Lent.table_of a.0) a.1.1.1.0.now r s.1.1.1.0.now
 listing-as-defined κs a r s p = p
 
 -- Normalising: answer and columns afterwards are those of `normalising`.
