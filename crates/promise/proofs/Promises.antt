@@ -60,7 +60,7 @@ listing-as-defined κs a r s p = p
 
 -- Normalising: answer and columns afterwards are those of `normalising`.
 pub normalising-as-defined : (κs : _) (a : _) (r : _) (s : _) → normalise.Post κs a r s
-    → Normalises (columns a) (mut_columns a.1.1.1.1.1.1) r (mut_columns s.1.1.1.1.1.1)
+    → Normalises (Rattle.tables.specs.Lent.table_of a.0) (mut_columns a.1) r (mut_columns s.1)
 normalising-as-defined κs a r s p = p
 
 -- Evaluating one row: sum and truth, or value, and the ones are those of `evaluating`.
