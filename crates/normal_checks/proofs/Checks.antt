@@ -1,4 +1,5 @@
 -- The first walk: what is answered of a row's terms, and rows passed with the terms that they need.
+use Rattle.std.specs.Prelude.{Some, Result, Ok, Err, MatchResult, slice_get}
 use mathlib.Core.Path.{◌≡◌, refl, sym, ap, ◌∙◌}
 use mathlib.Core.Bool.{Bool, true, false}
 use mathlib.Core.List.{List, [], ◌∷◌, ◌++◌}
@@ -13,6 +14,8 @@ use Rattle.definitions.specs.Lists.{joined}
 use Rattle.definitions.specs.Row.{Line, terms_of}
 use Rattle.definitions.specs.Table.{Table, row_room, refused, accepted, totals_of, entries, all_terms, and_then}
 use Rattle.definitions.specs.declared.Entry.{Entry}
+use Rattle.definitions.specs.declared.Fault.{Fault}
+use Rattle.definitions.specs.declared.Refusal.{Refusal}
 use Rattle.definitions.specs.Normal.{normal_line, normal_in}
 use Rattle.term_checks.specs.TermTests.{codes_indexed, weight_sizes}
 use Rattle.columns.proofs.EntryLaws.{entry_at, entries_from, entries-end}
@@ -22,6 +25,9 @@ use Rattle.shifts.specs.Shifts.{weight_rises, shift_by, shift_of}
 use Rattle.shifts.proofs.Rises.{shift-whole}
 use Rattle.definitions.specs.declared.Kind.{Kind}
 use Rattle.normal_checks.specs.FirstWalk.{terms_checked, normal_of, term_count, normal_rows, totals_needed}
+use Rattle.normal_checks.specs.Said.{said_row}
+use Rattle.tables.proofs.Entries.{entry-taken}
+use Rattle.definitions.proofs.Truths.{never}
 use Rattle.definitions.proofs.Columns.{terms-snoc}
 use Rattle.definitions.proofs.Columns.{Passed, passed_none, passed-all, passed-refused, passed-more}
 
@@ -122,3 +128,22 @@ module _ (t : Table) where
         where
           total : (x y z : ℕ) → terms ≡ needed x → n ≡ y → z ≡ x + y → needed (terms + n) ≡ needed z
           total x y z p q r = unfold needed in omega arith
+
+    -- what the check says of the entry e at i, whose fault becomes a refusal with its row
+    module _ (e : Entry) (g : slice_get (entries t) i ≡ Some e) (P : Fault → Type 0) where
+      pub walk-refused : (r : Result ℕ Fault) → said_row r ≡ term_count (normal_of e t.weights t.literals) → (d : Refusal)
+          → MatchResult r (λ n. ◌≡◌ {A = Result ℕ Refusal} (Err d) (Ok n)) P → ((f : Fault) → P f → d ≡ refusal f.number i)
+          → refused d ≡ totals_needed (normal_rows t)
+      walk-refused (Ok n) s d m h = never cc
+      walk-refused (Err f) s d m h =
+          let k = entry-taken t i e g in
+          rw (h f m) (counts-refused k.0 f.number (checked-in t (entry_at t i) _ (rw k.1 at s)))
+
+      pub walk-more : (r : Result ℕ Fault) → said_row r ≡ term_count (normal_of e t.weights t.literals) → (n : ℕ)
+          → MatchResult r (λ m. ◌≡◌ {A = Result ℕ Refusal} (Ok n) (Ok m)) P → ((f : Fault) → P f → ⊥)
+          → Counts (i + 1) (needed (terms + n))
+      walk-more (Ok m) s n p h =
+          let k = entry-taken t i e g in
+          let q : n ≡ m = cc in
+          rw q (counts-more k.0 m (checked-in t (entry_at t i) _ (rw k.1 at s)))
+      walk-more (Err f) s n p h = absurd (h f p)

@@ -6,11 +6,13 @@
 ghost use Rattle.std.specs.Prelude.{◌≡◌};
 ghost use Rattle.definitions.specs.Answers.{said_counted};
 ghost use Rattle.definitions.specs.Normal.{normalising};
-ghost use Rattle.definitions.specs.Table.{table, counted};
+ghost use Rattle.definitions.specs.Table.{counted};
 ghost use Rattle.normal_checks.specs.FirstWalk.{terms_checked, normal_of, term_count, normal_rows, totals_needed, totals_within};
 ghost use Rattle.normal_checks.specs.Said.{said_row};
+ghost use Rattle.tables.specs.Lent.{table_of};
 
-use definitions::{COMMENT, Fault, OBJECTIVE, Refusal, Totals, WEIGHT_LIMIT};
+use definitions::{COMMENT, Entry, Fault, OBJECTIVE, Refusal, Totals, WEIGHT_LIMIT};
+use tables::Table;
 
 // A row of a read kind, whose terms lie in their columns: the rest of 11, then 8.
 fn check_terms(kind: u8, bound: i64, weights: &[i64], literals: &[u32]) -> Result<usize, Fault>
@@ -30,28 +32,25 @@ fn check_terms(kind: u8, bound: i64, weights: &[i64], literals: &[u32]) -> Resul
 
 // An entry of the table. A comment is accepted as it is; a kind that the reader does not give is a "row that no table
 // may hold".
-fn check_row(
-    kind: u8,
-    first: usize,
-    count: usize,
-    bound: i64,
-    weights: &[i64],
-    literals: &[u32],
-) -> Result<usize, Fault>
-    ensures { said_row result ≡ term_count (normal_of (record { kind = kind; first = first; count = count; bound = bound }) weights.now literals.now) }
+fn check_row(entry: Entry, t: Table<'_>) -> Result<usize, Fault>
+    ensures { said_row result ≡ term_count (normal_of entry t.entry.weights.now t.entry.literals.now) }
 {
-    if kind == COMMENT {
+    if entry.kind == COMMENT {
         return Ok(0);
     }
-    if kind > OBJECTIVE {
+    if entry.kind > OBJECTIVE {
         return Err(Fault { number: 11 });
     }
-    let room = columns::term_room(weights, literals);
-    if !columns::in_column(first, count, room) {
+    if !columns::in_column(entry.first, entry.count, t.term_room()) {
         return Err(Fault { number: 11 });
     }
-    let end = first + count;
-    check_terms(kind, bound, &weights[first..end], &literals[first..end])
+    let end = entry.first + entry.count;
+    check_terms(
+        entry.kind,
+        entry.bound,
+        &t.weights[entry.first..end],
+        &t.literals[entry.first..end],
+    )
 }
 
 fn refused(number: u8, place: usize) -> Result<Totals, Refusal>
@@ -64,31 +63,21 @@ fn refused(number: u8, place: usize) -> Result<Totals, Refusal>
 }
 
 // "A call over a table takes every row lent; rows count from 0."
-fn count_rows(
-    kinds: &[u8],
-    firsts: &[usize],
-    counts: &[usize],
-    bounds: &[i64],
-    weights: &[i64],
-    literals: &[u32],
-) -> Result<Totals, Refusal>
-    ensures { said_counted result ≡ totals_needed (normal_rows (table kinds.now firsts.now counts.now bounds.now weights.now literals.now)) }
+fn count_rows(t: Table<'_>) -> Result<Totals, Refusal>
+    ensures { said_counted result ≡ totals_needed (normal_rows (table_of t.entry)) }
 {
-    let rows = columns::row_room(kinds, firsts, counts, bounds);
+    let rows = t.row_room();
     let mut terms: usize = 0;
     for row in 0..rows {
-        match check_row(
-            kinds[row],
-            firsts[row],
-            counts[row],
-            bounds[row],
-            weights,
-            literals,
-        ) {
-            // Rows may share terms, so a count can pass 64 bits.
-            Ok(n) => terms = terms.saturating_add(n),
-            Err(fault) => return refused(fault.number, row),
-        }
+        let Some(entry) = t.entry(row) else {
+            break;
+        };
+        let needed = check_row(entry, t).map_err(|fault| Refusal {
+            number: fault.number,
+            place: row as u64,
+        })?;
+        // Rows may share terms, so a count can pass 64 bits.
+        terms = terms.saturating_add(needed);
     }
     Ok(Totals { rows, terms })
 }
@@ -107,25 +96,9 @@ fn within(totals: Totals, rows: usize, terms: usize) -> Result<Totals, Refusal>
 }
 
 // What the call is to answer: the rows and terms that there are to fill, or the refusal.
-pub fn measure_normal(
-    kinds: &[u8],
-    firsts: &[usize],
-    counts: &[usize],
-    bounds: &[i64],
-    weights: &[i64],
-    literals: &[u32],
-    outkinds: &[u8],
-    outfirsts: &[usize],
-    outcounts: &[usize],
-    outbounds: &[i64],
-    outweights: &[i64],
-    outliterals: &[u32],
-) -> Result<Totals, Refusal>
-    ensures { said_counted result ≡ counted (normalising (table kinds.now firsts.now counts.now bounds.now weights.now literals.now)
-        (table outkinds.now outfirsts.now outcounts.now outbounds.now outweights.now outliterals.now)) }
+pub fn measure_normal(t: Table<'_>, out: Table<'_>) -> Result<Totals, Refusal>
+    ensures { said_counted result ≡ counted (normalising (table_of t.entry) (table_of out.entry)) }
 {
-    let totals = count_rows(kinds, firsts, counts, bounds, weights, literals)?;
-    let rows = columns::row_room(outkinds, outfirsts, outcounts, outbounds);
-    let terms = columns::term_room(outweights, outliterals);
-    within(totals, rows, terms)
+    let totals = count_rows(t)?;
+    within(totals, out.row_room(), out.term_room())
 }

@@ -5,18 +5,26 @@ use Prim.Native.Nat.{ℕ, ◌+◌, ◌-◌, ◌≤◌, ◌<◌, min}
 use native.Mathlib.Omega.{arith}
 use borrow.Author.Tests.{leb-true}
 use borrow.Rule.Slice.PartMut.{put_mid}
+use Rattle.std.specs.Prelude.{Some, slice_get}
 use lib.IntN.{ℤ, ◌+ℤ◌}
+use mir.Syntax.{w64}
+use mir.Val.{SFits}
 use lib.ListN.{length, take, drop, set, length-map, length-drop}
 use Rattle.definitions.specs.Lists.{joined}
 use Rattle.definitions.specs.Refusal.{accept}
 use Rattle.definitions.specs.Row.{weight_of, literal_of, Line, terms_of}
 use Rattle.definitions.specs.Table.{Table, table, row_room, term_room, Outcome, accepted, entries, terms_on, terms_at, all_terms, filled}
+use Rattle.definitions.specs.Table.{kind_in, first_in, count_in, bound_in}
 use Rattle.definitions.specs.declared.Entry.{Entry}
 use Rattle.definitions.specs.Normal.{normal_term, normal, normal_in}
-use Rattle.columns.proofs.EntryLaws.{entry_at, entries_from, entries-end}
+use Rattle.definitions.specs.declared.Kind.{Kind}
+use Rattle.definitions.proofs.Whole.{true-in}
+use Rattle.columns.proofs.EntryLaws.{entries_from, entries-end}
+use Rattle.tables.proofs.Entries.{entry-taken}
 use Rattle.term_checks.proofs.Terms.{weights_at, literals_at, terms-at, weights-at-count, literals-at-count, terms-at-count}
 use Rattle.columns.specs.Kinds.{read_kind}
-use Rattle.shifts.specs.Shifts.{weight_rises, shift_by}
+use Rattle.shifts.specs.Shifts.{weight_rises, shift_by, shift_of}
+use Rattle.shifts.proofs.Rises.{shift-whole}
 use Rattle.normal_checks.specs.FirstWalk.{normal_of, normal_rows}
 use Rattle.normal_checks.proofs.Checks.{normal-of}
 use Rattle.normal_checks.proofs.Entries.{on, normal-bound, accepted-comment, ReadRow, accepted-row, kind-kept, count_kept}
@@ -52,6 +60,15 @@ module _ (ws : List ℤ) (cs : List ℕ) (e : Entry) (w₀ : List ℤ) (l₀ : L
           weights = omega (arith, r.fits.weights);
           literals = omega (arith, r.fits.literals);
         }
+
+    -- what the code adds to the bound is what the definition adds, and the sum is a bound
+    pub bound-moved : (κ : Kind) (z : ℤ) → κ ≡ read_kind e.kind → z ≡ shift_of κ (weights_at (on ws cs e) e)
+        → (z ≡ shift_by (read_kind e.kind) (weight_rises (weights_at (on ws cs e) e))) × SFits w64 (e.bound +ℤ z)
+    bound-moved κ z p q =
+        let m : z ≡ shift_by (read_kind e.kind) (weight_rises (weights_at (on ws cs e) e)) =
+        q ∙ ap (λ (k : Kind). shift_of k (weights_at (on ws cs e) e)) p
+        ∙ shift-whole (read_kind e.kind) (weights_at (on ws cs e) e) given.small in
+        (m, rw m (true-in _ given.bounded))
 
   -- what is left
   module _ (m : ℕ) where
@@ -113,19 +130,22 @@ module _ (t o : Table) where
         same : {q : Outcome (List Line)} {ys zs : List Line} → q ≡ accepted ys → q ≡ accepted zs → ys ≡ zs
         same a b = cc
 
-    -- the row at i
-    module _ (h : i < row_room t) where
-      pub next : Next (normal_in t) (entries t) i f.pre f.passed (entry_at t i) (entries_from t i h) ready.given ready.accepts
-      next = passed-next (normal_in t) (entries t) i f.pre f.passed (entry_at t i) (entries_from t i h) ready.given ready.accepts
+    -- the row at i, with the entry e
+    module _ (e : Entry) (g : slice_get (entries t) i ≡ Some e) where
+      pub from : drop i (entries t) ≡ e ∷ drop (i + 1) (entries t)
+      from = let k = entry-taken t i e g in rw k.1 (entries_from t i k.0)
+
+      pub next : Next (normal_in t) (entries t) i f.pre f.passed e from ready.given ready.accepts
+      next = passed-next (normal_in t) (entries t) i f.pre f.passed e from ready.given ready.accepts
 
       abbrev pub line : Line
       line = next.value
 
-      pub line-accepted : normal_of (entry_at t i) t.weights t.literals ≡ accept line
-      line-accepted = sym (normal-of t (entry_at t i)) ∙ next.accepts
+      pub line-accepted : normal_of e t.weights t.literals ≡ accept line
+      line-accepted = sym (normal-of t e) ∙ next.accepts
 
       more : Passed (normal_in t) (entries t) (i + 1) (f.pre ++ (line ∷ []))
-      more = passed-more (normal_in t) (entries t) i f.pre f.passed (entry_at t i) (entries_from t i h) line next.accepts
+      more = passed-more (normal_in t) (entries t) i f.pre f.passed e from line next.accepts
 
       pub record Fit : Type 0 where
         pub rows : i < row_room o
@@ -140,7 +160,7 @@ module _ (t o : Table) where
                 omega (arith, begins-terms (f.pre ++ (line ∷ [])) ready.given p, terms-snoc f.pre line, f.terms-are, ready.terms);
           }
 
-      pub filling-ready : RowReady (normal_of (entry_at t i) t.weights t.literals)
+      pub filling-ready : RowReady (normal_of e t.weights t.literals)
           (take (length x.weights - term) (drop term x.weights)) (take (length x.literals - term) (drop term x.literals))
       filling-ready =
           record {
@@ -157,22 +177,24 @@ module _ (t o : Table) where
           → LineFilled line term (take (length x.weights - term) (drop term x.weights))
           (take (length x.literals - term) (drop term x.literals)) r w l
           → Filling (i + 1) (term + r.terms)
-          (table (set x.kinds i (entry_at t i).kind) (set x.firsts i r.first) (set x.counts i (entry_at t i).count)
+          (table (set x.kinds i e.kind) (set x.firsts i r.first) (set x.counts i e.count)
           (set x.bounds i r.bound) (put_mid term (length x.weights - term) x.weights w)
           (put_mid term (length x.literals - term) x.literals l))
       filling-more r w l d =
-          rw (
-            d.first,
-            d.bound,
-            d.terms,
-            ← kind-kept t.weights t.literals (entry_at t i) line line-accepted,
-            ← count_kept t.weights t.literals (entry_at t i) line line-accepted,
-          )
-          (record {
-            pre = f.pre ++ (line ∷ []);
-            passed = more;
-            terms-are = omega (arith, terms-snoc f.pre line, f.terms-are);
-            now-is = filled_more f.pre line o i term (sym f.passed.count) f.terms-are filling-fit.rows x _ _ f.now-is
-                (part-back x.weights (map weight_of (terms_of line)) w term d.filled.weights)
-                (part-back x.literals (map literal_of (terms_of line)) l term d.filled.literals);
-          })
+          rw (d.first, d.bound, d.terms)
+          (by e.kind e.count (kind-kept t.weights t.literals e line line-accepted) (count_kept t.weights t.literals e line line-accepted))
+        where
+          by : (k n : ℕ) → kind_in line ≡ k → count_in line ≡ n
+              → Filling (i + 1) (term + length (terms_of line))
+              (table (set x.kinds i k) (set x.firsts i (first_in term line)) (set x.counts i n) (set x.bounds i (bound_in line))
+              (put_mid term (length x.weights - term) x.weights w) (put_mid term (length x.literals - term) x.literals l))
+          by k n p q =
+              rw (← p, ← q)
+              (record {
+                pre = f.pre ++ (line ∷ []);
+                passed = more;
+                terms-are = omega (arith, terms-snoc f.pre line, f.terms-are);
+                now-is = filled_more f.pre line o i term (sym f.passed.count) f.terms-are filling-fit.rows x _ _ f.now-is
+                    (part-back x.weights (map weight_of (terms_of line)) w term d.filled.weights)
+                    (part-back x.literals (map literal_of (terms_of line)) l term d.filled.literals);
+              })

@@ -30,6 +30,7 @@ use Rattle.laws.proofs.Tables.{Indexed}
 use Rattle.laws.proofs.FilledTables.{filled-back}
 use Rattle.definitions.proofs.Accepted.{rows-accepted}
 use Rattle.definitions.proofs.Normals.{terms-indexed, normal-weighs, normal-line-twice}
+use Rattle.tables.specs.Lent.{table_of}
 use Rattle.normaliser.proofs.normalise.Reads as normalise
 
 -- ---- one line
@@ -198,12 +199,8 @@ module _ (t o : Table) where
 
 pub normalise-meant : (κs : _) (a : _) (n m : ℕ) (s : _) → normalise.Post κs a (Ok (totals_of n m)) s
     → Meant
-    (table a.0.now a.1.0.now a.1.1.0.now a.1.1.1.0.now a.1.1.1.1.0.now a.1.1.1.1.1.0.now)
-    (table a.1.1.1.1.1.1.0.now a.1.1.1.1.1.1.1.0.now a.1.1.1.1.1.1.1.1.0.now
-    a.1.1.1.1.1.1.1.1.1.0.now
-    a.1.1.1.1.1.1.1.1.1.1.0.now a.1.1.1.1.1.1.1.1.1.1.1.0.now)
-    (table s.1.1.1.1.1.1.0.now s.1.1.1.1.1.1.1.0.now s.1.1.1.1.1.1.1.1.0.now
-    s.1.1.1.1.1.1.1.1.1.0.now
-    s.1.1.1.1.1.1.1.1.1.1.0.now s.1.1.1.1.1.1.1.1.1.1.1.0.now)
+    (table_of a.0)
+    (table a.1.0.now a.1.1.0.now a.1.1.1.0.now a.1.1.1.1.0.now a.1.1.1.1.1.0.now a.1.1.1.1.1.1.0.now)
+    (table s.1.0.now s.1.1.0.now s.1.1.1.0.now s.1.1.1.1.0.now s.1.1.1.1.1.0.now s.1.1.1.1.1.1.0.now)
     n m
 normalise-meant κs a n m s p = rw p.after (normalising-meant _ _ n m (sym p.answer))

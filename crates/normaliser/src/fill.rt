@@ -7,19 +7,21 @@ ghost use Rattle.definitions.specs.Table.{table, terms_on, accepted, filled};
 ghost use Rattle.definitions.specs.Normal.{normal_by, normal_term};
 ghost use Rattle.normal_checks.specs.FirstWalk.{normal_of, normal_rows};
 ghost use Rattle.normaliser.specs.Fill.{said_term, TermsReady, TermsFilled, RowReady, RowFilled, Ready};
+ghost use Rattle.tables.specs.Lent.{table_of};
 
-use definitions::COMMENT;
+use definitions::{COMMENT, Entry};
 use literals::Lit;
+use tables::Table;
 
 // A term: its weight and its literal.
-#[derive(Drop)]
+#[derive(Clone, Copy, Debug, PartialEq, Eq)]
 pub struct NormalTerm {
     pub weight: i64,
     pub literal: Lit,
 }
 
 // A row that was filled: its first term or a comment's offset, its bound, and how many terms it has.
-#[derive(Drop)]
+#[derive(Clone, Copy, Debug, PartialEq, Eq)]
 pub struct Filled {
     pub first: usize,
     pub bound: i64,
@@ -47,61 +49,50 @@ fn fill_terms(weights: &[i64], literals: &[u32], outweights: &mut [i64], outlite
     requires { TermsReady weights.now literals.now outweights.old outliterals.old }
     ensures { TermsFilled (map normal_term (terms_on weights.now literals.now)) outweights.old outliterals.old outweights.new outliterals.new }
 {
-    let mut i: usize = 0;
-    while i < weights.len() {
+    for i in 0..weights.len() {
         let term = normal_term(weights[i], Lit::of_code(literals[i]));
-        let weight = term.weight;
-        outweights[i] = weight;
+        outweights[i] = term.weight;
         outliterals[i] = term.literal.code();
-        i += 1;
     }
 }
 
 // One row with `term` terms before it: its terms from the front of the columns. "Comment rows are copied as they are."
 fn fill_row(
-    kind: u8,
-    first: usize,
-    count: usize,
-    bound: i64,
-    weights: &[i64],
-    literals: &[u32],
+    entry: Entry,
+    t: Table<'_>,
     term: usize,
     outweights: &mut [i64],
     outliterals: &mut [u32],
 ) -> Filled
-    requires { RowReady (normal_of (record { kind = kind; first = first; count = count; bound = bound }) weights.now literals.now) outweights.old outliterals.old }
-    ensures { RowFilled (normal_of (record { kind = kind; first = first; count = count; bound = bound }) weights.now literals.now) term outweights.old outliterals.old result outweights.new outliterals.new }
+    requires { RowReady (normal_of entry t.weights.now t.literals.now) outweights.old outliterals.old }
+    ensures { RowFilled (normal_of entry t.entry.weights.now t.entry.literals.now) term outweights.old outliterals.old result outweights.new outliterals.new }
 {
-    if kind == COMMENT {
+    if entry.kind == COMMENT {
         return Filled {
-            first,
-            bound,
+            first: entry.first,
+            bound: entry.bound,
             terms: 0,
         };
     }
-    let end = first + count;
+    let end = entry.first + entry.count;
+    let weights = &t.weights[entry.first..end];
     fill_terms(
-        &weights[first..end],
-        &literals[first..end],
+        weights,
+        &t.literals[entry.first..end],
         outweights,
         outliterals,
     );
-    let shift = shifts::shift_of(kinds::read_kind(kind), &weights[first..end]);
+    let shift = shifts::shift_of(kinds::read_kind(entry.kind), weights);
     Filled {
         first: term,
-        bound: bound + shift,
-        terms: count,
+        bound: entry.bound + shift,
+        terms: entry.count,
     }
 }
 
 // Every row, from the front of the columns. Kinds and counts stay.
 pub(crate) fn fill_rows(
-    kinds: &[u8],
-    firsts: &[usize],
-    counts: &[usize],
-    bounds: &[i64],
-    weights: &[i64],
-    literals: &[u32],
+    t: Table<'_>,
     outkinds: &mut [u8],
     outfirsts: &mut [usize],
     outcounts: &mut [usize],
@@ -109,34 +100,27 @@ pub(crate) fn fill_rows(
     outweights: &mut [i64],
     outliterals: &mut [u32],
 )
-    requires { Ready (table kinds.now firsts.now counts.now bounds.now weights.now literals.now) (table outkinds.old outfirsts.old outcounts.old outbounds.old outweights.old outliterals.old) }
-    ensures { (ls : List Line) → normal_rows (table kinds.now firsts.now counts.now bounds.now weights.now literals.now) ≡ accepted ls
+    requires { Ready (table_of t) (table outkinds.old outfirsts.old outcounts.old outbounds.old outweights.old outliterals.old) }
+    ensures { (ls : List Line) → normal_rows (table_of t.entry) ≡ accepted ls
         → table outkinds.new outfirsts.new outcounts.new outbounds.new outweights.new outliterals.new
         ≡ filled ls (table outkinds.old outfirsts.old outcounts.old outbounds.old outweights.old outliterals.old) }
 {
-    let rows = columns::row_room(kinds, firsts, counts, bounds);
     let mut term: usize = 0;
-    let mut i: usize = 0;
-    while i < rows {
-        let kind = kinds[i];
-        let count = counts[i];
+    for i in 0..t.row_room() {
+        let Some(entry) = t.entry(i) else {
+            break;
+        };
         let row = fill_row(
-            kind,
-            firsts[i],
-            count,
-            bounds[i],
-            weights,
-            literals,
+            entry,
+            t,
             term,
             &mut outweights[term..],
             &mut outliterals[term..],
         );
-        let bound = row.bound;
-        outkinds[i] = kind;
+        outkinds[i] = entry.kind;
         outfirsts[i] = row.first;
-        outcounts[i] = count;
-        outbounds[i] = bound;
+        outcounts[i] = entry.count;
+        outbounds[i] = row.bound;
         term += row.terms;
-        i += 1;
     }
 }

@@ -7,17 +7,14 @@ mod fill;
 
 ghost use Rattle.definitions.specs.Table.{table};
 ghost use Rattle.normaliser.specs.Normalises.{Normalises};
+ghost use Rattle.tables.specs.Lent.{table_of};
 
 use definitions::{Refusal, Totals};
+use tables::Table;
 
 // "Row by row 11, 8; then 9, 10."
 pub fn normalise(
-    kinds: &[u8],
-    firsts: &[usize],
-    counts: &[usize],
-    bounds: &[i64],
-    weights: &[i64],
-    literals: &[u32],
+    t: Table<'_>,
     outkinds: &mut [u8],
     outfirsts: &mut [usize],
     outcounts: &mut [usize],
@@ -25,31 +22,21 @@ pub fn normalise(
     outweights: &mut [i64],
     outliterals: &mut [u32],
 ) -> Result<Totals, Refusal>
-    ensures { Normalises (table kinds.now firsts.now counts.now bounds.now weights.now literals.now)
+    ensures { Normalises (table_of t.entry)
         (table outkinds.old outfirsts.old outcounts.old outbounds.old outweights.old outliterals.old) result
         (table outkinds.new outfirsts.new outcounts.new outbounds.new outweights.new outliterals.new) }
 {
-    let totals = normal_checks::measure_normal(
-        kinds,
-        firsts,
-        counts,
-        bounds,
-        weights,
-        literals,
-        outkinds,
-        outfirsts,
-        outcounts,
-        outbounds,
-        outweights,
-        outliterals,
-    )?;
+    let out = Table {
+        kinds: outkinds,
+        firsts: outfirsts,
+        counts: outcounts,
+        bounds: outbounds,
+        weights: outweights,
+        literals: outliterals,
+    };
+    let totals = normal_checks::measure_normal(t, out)?;
     fill::fill_rows(
-        kinds,
-        firsts,
-        counts,
-        bounds,
-        weights,
-        literals,
+        t,
         outkinds,
         outfirsts,
         outcounts,

@@ -10,6 +10,7 @@ ghost use Rattle.opb_tables.specs.Calls.{count_answer, ReadsFile, NormalisesTabl
 
 use definitions::Options;
 use table_answers::{OpbTable, table_answer};
+use tables::Table;
 
 // The rows and terms of a file, so that columns for them can be had. Refusals 1 to 8; 9 and 10 ask for columns.
 #[unsafe(no_mangle)]
@@ -60,13 +61,16 @@ pub extern "C" fn opb_normalise(
         (table outkinds.old outfirsts.old outcounts.old outbounds.old outweights.old outliterals.old) result
         (table outkinds.new outfirsts.new outcounts.new outbounds.new outweights.new outliterals.new) }
 {
-    table_answer(normaliser::normalise(
+    let t = Table {
         kinds,
         firsts,
         counts,
         bounds,
         weights,
         literals,
+    };
+    table_answer(normaliser::normalise(
+        t,
         outkinds,
         outfirsts,
         outcounts,

@@ -55,31 +55,31 @@ writing-as-defined κs a r s p = p
 -- Listing a table's first rows: answer and output afterwards are those of `listing_table`. A refused call changes no
 -- byte.
 pub listing-as-defined : (κs : _) (a : _) (r : _) (s : _) → list-table.Post κs a r s
-    → Lists a.1.1.0 a.1.0 (Rattle.tables.specs.Lent.table_of a.0) a.1.1.1.0.now r s.1.1.1.0.now
+    → Lists a.1.1.0 a.1.0 (table_of a.0) a.1.1.1.0.now r s.1.1.1.0.now
 listing-as-defined κs a r s p = p
 
 -- Normalising: answer and columns afterwards are those of `normalising`.
 pub normalising-as-defined : (κs : _) (a : _) (r : _) (s : _) → normalise.Post κs a r s
-    → Normalises (columns a) (mut_columns a.1.1.1.1.1.1) r (mut_columns s.1.1.1.1.1.1)
+    → Normalises (Rattle.tables.specs.Lent.table_of a.0) (mut_columns a.1) r (mut_columns s.1)
 normalising-as-defined κs a r s p = p
 
 -- Evaluating one row: sum and truth, or value, and the ones are those of `evaluating`.
 pub evaluating-as-defined : (κs : _) (a : _) (r : _) (s : _) → evaluate.Post κs a r s
     → Rattle.verdicts.specs.Said.said_evaluated r
-    ≡ Rattle.definitions.specs.Evaluate.evaluating (Rattle.tables.specs.Lent.table_of a.0) a.1.0 a.1.1.0.now
+    ≡ Rattle.definitions.specs.Evaluate.evaluating (table_of a.0) a.1.0 a.1.1.0.now
 evaluating-as-defined κs a r s p = p
 
 -- The same where a second row says which variables are known: those of `evaluating_known`. A variable that is not known
 -- is refused, never taken as false.
 pub evaluating-known-as-defined : (κs : _) (a : _) (r : _) (s : _) → evaluate-known.Post κs a r s
     → Rattle.verdicts.specs.Said.said_evaluated r
-    ≡ Rattle.definitions.specs.Evaluate.evaluating_known (Rattle.tables.specs.Lent.table_of a.0) a.1.0 a.1.1.0.now a.1.1.1.0.now
+    ≡ Rattle.definitions.specs.Evaluate.evaluating_known (table_of a.0) a.1.0 a.1.1.0.now a.1.1.1.0.now
 evaluating-known-as-defined κs a r s p = p
 
 -- A row that is judged has the sum and truth, or the value, that `evaluating_known` says; only the ones are left out.
 pub judging-as-defined : (κs : _) (a : _) (r : _) (s : _) → judge.Post κs a r s
     → Rattle.verdicts.specs.Said.said_evaluated r
-    ≡ Rattle.definitions.specs.Evaluate.judging (Rattle.tables.specs.Lent.table_of a.0) a.1.0 a.1.1.0.now a.1.1.1.0.now
+    ≡ Rattle.definitions.specs.Evaluate.judging (table_of a.0) a.1.0 a.1.1.0.now a.1.1.1.0.now
 judging-as-defined κs a r s p = p
 
 -- Value lines: the new length and both rows afterwards are those of `valuing`. A refused block changes no bit.

@@ -103,7 +103,7 @@ module _ (t : Table) (f : Line → Checked Found) where
   front-got : (es : List Entry) (i : ℕ) (e : Entry) → slice_get es i ≡ Some e → front_by (drop i es) t f ≡ and_then (line_in t e) f
   front-got [] zero e q = cc
   front-got [] (suc i) e q = cc
-  front-got (d ∷ es) zero e q = ap (λ (x : Entry). and_then (line_in t x) f) ((cc))
+  front-got (d ∷ es) zero e q = cc
   front-got (d ∷ es) (suc i) e q = front-got es i e q
 
   front-none : (es : List Entry) (i : ℕ) → slice_get es i ≡ None → front_by (drop i es) t f ≡ refuse 11

@@ -30,12 +30,7 @@ fn normalise<W: Write>(
     let lentfirsts = &mut outfirsts[0..rows];
     let lentliterals = &mut outliterals[0..terms];
     let answer = normaliser::normalise(
-        table.kinds,
-        table.firsts,
-        table.counts,
-        table.bounds,
-        table.weights,
-        table.literals,
+        table,
         &mut outkinds,
         lentfirsts,
         &mut outcounts,

