@@ -52,10 +52,25 @@ fn run_case<W: Write>(output: &mut W, line: &[u8], number: usize) -> io::Result<
     vectors_shown::say(output, b"\n")
 }
 
-// Each line ends behind its LF, the last one also where it has none.
+// How many bytes the first line has with its LF; the last line has none where the text ends first.
+fn line_length(s: &[u8]) -> usize
+    requires { 0 < length s.now }
+    ensures { (0 < result) × (result ≤ length s.now) }
+{
+    match s.iter().position(|&b| b == b'\n') {
+        Some(before) => before + 1,
+        None => s.len(),
+    }
+}
+
 fn run_cases<W: Write>(output: &mut W, s: &[u8]) -> io::Result<()> {
-    for (before, line) in s.split_inclusive(|&b| b == b'\n').enumerate() {
-        run_case(output, line, before + 1)?;
+    let mut rest = s;
+    let mut number: usize = 0;
+    while !rest.is_empty() {
+        let (line, after) = rest.split_at(line_length(rest));
+        number += 1;
+        run_case(output, line, number)?;
+        rest = after;
     }
     Ok(())
 }

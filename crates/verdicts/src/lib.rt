@@ -18,7 +18,6 @@ pub enum Evaluated {
 }
 
 // "For an objective, the sum plus the bound column", or 8.
-
 fn objective(sum: i64, bound: i64, ones: u64, row: usize) -> Result<Evaluated, Refusal>
     ensures { said_evaluated result ≡ on_place row (valued (sum +ℤ bound) ones) }
 {

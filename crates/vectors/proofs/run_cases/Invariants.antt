@@ -1,8 +1,9 @@
-use Rattle.std.proofs.Common.{length, ◌-◌, ◌≤◌}
+-- `run_cases` is safe and ends: there are no more lines than bytes, and each line has one at least.
+use Rattle.std.proofs.Common.{length, ◌+◌, ◌≤◌}
 use Rattle.vectors.proofs.run_cases.Given as goal
 
-abbrev pub invariant-loop-at : goal.invariant-loop-at
-invariant-loop-at g l = (l.number ≤ l.at) × (l.at ≤ length l.s)
+abbrev pub invariant-loop-rest : goal.invariant-loop-rest
+invariant-loop-rest g l = l.number + length l.rest ≤ length l.s
 
-abbrev pub decreases-loop-at : goal.decreases-loop-at
-decreases-loop-at g l = length l.s - l.at
+abbrev pub decreases-loop-rest : goal.decreases-loop-rest
+decreases-loop-rest g l = length l.rest
