@@ -16,8 +16,8 @@ pub fn blanks_of(s: &[u8]) -> usize
     s.len()
 }
 
-#[tactic(auto, using(crate::proofs::Endings::by_bytes))]
 // How many bytes a line ending at the front has, 0 where none stands there.
+#[tactic(auto, using(crate::proofs::Endings::by_bytes))]
 pub fn line_ending_of(s: &[u8]) -> usize
     ensures { result ≡ line_ending s.now }
 {

@@ -1,5 +1,5 @@
-// The first walk over a block of signed numbers or `x` tokens: the first 20, 21 or 5, and the length that all before it
-// asks for. Assumes nothing.
+// The first walk over a block of signed numbers or `x` tokens: the first 20, 21 or 5, or the length that all of it asks
+// for. Assumes nothing.
 ghost use Rattle.std.specs.Prelude.{◌≡◌, ◌+◌, max};
 ghost use Rattle.definitions.specs.Literal.{index_of};
 ghost use Rattle.definitions.specs.Values.{front, items_from};

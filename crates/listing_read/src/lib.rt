@@ -28,7 +28,6 @@ pub fn list_read(
         file, options, kinds, firsts, counts, bounds, weights, literals,
     ) {
         Ok(found) => {
-            // What it answers is not asked: the lines lie in the output, or do not fit and it stays.
             let t = Table {
                 kinds,
                 firsts,
@@ -37,6 +36,7 @@ pub fn list_read(
                 weights,
                 literals,
             };
+            // What it answers is not asked: the lines lie in the output, or do not fit and it stays.
             let _ = house::list_table(t, found.rows, first, out);
         }
         Err(e) => {

@@ -7,8 +7,8 @@ use lengths::add_needed;
 use literals::FileNumber;
 use shown::{Shown, Style, Sums, show_term, with_weight};
 
-// What the first walk counts of a row's terms: whether each so far has a file number, and if so the length of their
-// text.
+// What the first walk counts of a row's terms: the sums of their weights; whether each so far has a file number, and if
+// so the length of their text.
 #[derive(Clone, Copy, Debug, PartialEq, Eq)]
 pub(crate) struct Tally {
     pub sums: Sums,

@@ -5,8 +5,8 @@ ghost use Rattle.operators.specs.Said.{said_operator};
 
 use definitions::OpbOperator;
 
-#[tactic(auto, using(crate::proofs::Operators::by_bytes))]
 // "`<=`, `>=`, `<`, `>`, `=`, longest first": an operator at the front and the bytes that it takes, or none (6).
+#[tactic(auto, using(crate::proofs::Operators::by_bytes))]
 pub fn read_operator(s: &[u8]) -> Option<(OpbOperator, usize)>
     ensures { said_operator result ≡ operator s.now }
 {

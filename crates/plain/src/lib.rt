@@ -18,10 +18,10 @@ pub struct PlainTerm {
     pub number: u64,
 }
 
-// The term at the front of s, if it is plain, and the bytes that it takes. "Each reading step takes the rest of the file from where the last one
-// stopped": the weight is read from s, the literal from what is left behind the weight's space. They and two spaces
-// take 16 bytes at most. A file number above 0 is not below the first index 0 or 1; with another first index no term is
-// plain.
+// The term at the front of s, if it is plain, and the bytes that it takes. "Each reading step takes the rest of the
+// file from where the last one stopped": the weight is read from s, the literal from what is left behind the weight's
+// space. They and two spaces take 16 bytes at most. A file number above 0 is not below the first index 0 or 1; with
+// another first index no term is plain.
 pub fn plain_term(s: &[u8], options: Options) -> Option<(PlainTerm, usize)>
     ensures { said_plain result ≡ plain_at options s.now }
 {

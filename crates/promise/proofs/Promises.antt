@@ -36,7 +36,7 @@ use Rattle.assigned.specs.WordsSay.{looked}
 use Rattle.values.specs.Reads.{ReadsValues}
 use Rattle.values.proofs.read_values.Reads as read-values
 use Rattle.tables.specs.Lent.{table_of}
-use Rattle.promise.proofs.Lent.{columns, mut_columns}
+use Rattle.promise.proofs.Lent.{mut_columns}
 
 -- ---- What the code promises. `Post` is the contract that the prover makes of the source, over what a call is lent
 -- (a), its answer (r) and what it leaves (s); the check of a crate proves that its code meets it.
@@ -60,7 +60,7 @@ listing-as-defined κs a r s p = p
 
 -- Normalising: answer and columns afterwards are those of `normalising`.
 pub normalising-as-defined : (κs : _) (a : _) (r : _) (s : _) → normalise.Post κs a r s
-    → Normalises (Rattle.tables.specs.Lent.table_of a.0) (mut_columns a.1) r (mut_columns s.1)
+    → Normalises (table_of a.0) (mut_columns a.1) r (mut_columns s.1)
 normalising-as-defined κs a r s p = p
 
 -- Evaluating one row: sum and truth, or value, and the ones are those of `evaluating`.

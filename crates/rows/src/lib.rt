@@ -1,6 +1,6 @@
 // One row of a table under an assignment lent as words (01, "Normalising and evaluating"): its entry, the sum of its
-// terms, and what is answered for it. Where there are no known words, everything that the words hold is known. The number
-// of ones is told. Assumes nothing.
+// terms, and what is answered for it. Where there are no known words, everything that the words hold is known. The
+// number of ones is told. Assumes nothing.
 #![tactic(auto)]
 
 ghost use Rattle.std.specs.Prelude.{◌≡◌, option_copied, option_map};

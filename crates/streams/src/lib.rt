@@ -41,8 +41,8 @@ fn behind<R: Read>(reader: &mut R, full: usize) -> io::Result<Option<usize>>
     Ok(Some(full))
 }
 
-// The whole input: how many bytes it has, at the front of the buffer; none where it has more than the buffer holds. After
-// an error, what was read before it stands there.
+// The whole input: how many bytes it has, at the front of the buffer; none where it has more than the buffer holds.
+// After an error, what was read before it stands there.
 pub fn read_input<R: Read>(reader: &mut R, buffer: &mut [u8]) -> io::Result<Option<usize>>
     ensures within { IfOk result (λ input. InputWithin input (length buffer.new)) }
     ensures bytes { IfOk result (IsInput (R.remaining reader.old) buffer.new) }

@@ -1,6 +1,6 @@
 // The sum of a row's terms under an assignment lent as words (01, "Normalising and evaluating"): "11, 8 for absolute
-// weights, 12", or the sum. What the words assign is asked of crates/assigned, which `words` and `known` are for. Assumes
-// nothing.
+// weights, 12", or the sum. What the words assign is asked of crates/assigned, which `words` and `known` are for.
+// Assumes nothing.
 #![tactic(auto)]
 
 ghost use Rattle.std.specs.Prelude.{◌≡◌, true, ◌*◌, ◌≤◌, ◌<◌, length, option_copied, option_map};

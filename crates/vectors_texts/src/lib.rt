@@ -1,5 +1,5 @@
 // A part of the program `vectors`: the front of a text; and a number, a count and a text printed into an output of 24
-// bytes, which are dots before. Each public function says whether the line is such a case, which is then run. Assumes
+// bytes, which are dots before. Each public function says whether the words are such a case, which is then run. Assumes
 // nothing.
 #![tactic(auto)]
 
