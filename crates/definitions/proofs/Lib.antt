@@ -4,7 +4,8 @@ pub mod ThereAndBack
 pub mod WholeFile
 pub mod SameAnswers
 pub mod EveryExample
--- ---- tests, whole numbers, lists, answers
+-- ---- limits, tests, whole numbers, lists, answers
+pub mod DeclaredLimits
 pub mod Truths
 pub mod Room
 pub mod Whole

@@ -3,7 +3,7 @@
 // that an option, a class or an operator is one thing in both. Assumes nothing.
 #![tactic(auto)]
 
-// The limits (01, "Numbers and tables"), as specs/Limits.antt has them.
+// The limits (01, "Numbers and tables"), as specs/Limits.antt has them, by proofs/DeclaredLimits.antt.
 pub const FILE_LIMIT: usize = 1_073_741_823;
 
 pub const INDEX_LIMIT: u32 = 1_073_741_823;

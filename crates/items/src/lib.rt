@@ -38,6 +38,10 @@ fn seek(block: &[u8], from: usize, front: bool) -> Result<Option<usize>, Untagge
     let mut opens = front;
     for at in from..block.len() {
         let b = block[at];
+        if b == b' ' && !opens {
+            // Most of what stands between tokens, passed by this look alone.
+            continue;
+        }
         if opens {
             if b != b'v' {
                 return Err(Untagged(at));

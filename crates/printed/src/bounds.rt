@@ -5,7 +5,7 @@ ghost use Rattle.printed.specs.Kinds.{is_at_most};
 ghost use Rattle.printed.specs.Bounds.{within, said_bound, fallen_bound, printed_bound};
 
 use crate::kinds::{is_at_most, is_objective};
-use definitions::{Kind, WEIGHT_LIMIT};
+use definitions::Kind;
 use shown::Sums;
 
 fn flipped_bound(kind: Kind, bound: i64, total: i64) -> Option<i64>

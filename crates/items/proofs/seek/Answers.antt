@@ -17,6 +17,11 @@ returns-then-not-is_white c =
     seeking-token _ _ _ _ _ c.loop-at.invariant (omega arith) c.if-opens.false c.if-b-eq10.false
     (sym c.is_white.ensures ∙ c.if-not-is_white.true)
 
+pub loop-at-preserved-then-not-opens : goal.loop-at-preserved-then-not-opens
+loop-at-preserved-then-not-opens c =
+    let h : c.loop-at.at < length c.args.block.now = omega arith in
+    rw c.if-not-opens.true (seeking-white _ _ _ _ _ c.loop-at.invariant h c.if-not-opens.true (omega arith) (rw c.if-b-eq32.true))
+
 pub loop-at-preserved : goal.loop-at-preserved
 loop-at-preserved c =
     let h : c.loop-at.at < length c.args.block.now = omega arith in
