@@ -1,5 +1,5 @@
--- Line endings: what stands at a place of a text, and the walk of `until_ending_of`, which looks for LF and back at the
--- byte before it.
+-- Line endings: what stands at a place of a text, and the text before the first, which a walk finds that looks for LF and
+-- back at the byte before it.
 use Prim.Native.Nat.{ℕ, zero, suc, ◌+◌, ◌-◌, ◌≤◌, ◌<◌}
 use mathlib.Core.Path.{◌≡◌, sym}
 use mathlib.Core.Bool.{and-false}

@@ -1,4 +1,5 @@
 pub mod At
 pub mod Blanks
 pub mod Endings
+pub mod LfGroups
 pub mod OneAnswer

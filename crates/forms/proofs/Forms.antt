@@ -8,11 +8,12 @@ use native.Mathlib.Omega.{arith}
 use borrow.Author.Tests.{eq-eqb, ne_eqb}
 use lib.Dec.{eqb}
 use lib.ListN.{length, get_or, take, drop, length-drop}
-use lib.Seq.{drop-drop, get_or-take, get_or-drop}
+use lib.Seq.{drop-drop, get_or-take, get_or-drop, take_all}
+use Rattle.std.specs.List.{list_any}
 use Rattle.definitions.specs.Bytes.{letter_x}
 use Rattle.definitions.specs.Values.{zero_digit, is_white, is_bit, front_of, behind, among, only_bits, just_zero, form_of}
 use Rattle.definitions.specs.declared.Form.TheVariants.{SignedNumbers, ZerosAndOnes, XTokens}
-use Rattle.items.proofs.Runs.{front-within, front-take}
+use Rattle.items.proofs.Runs.{front-within, front-take, any-among}
 
 -- zeros and ones alone, but not just `0`
 abbrev pub is_string : List ℕ → Bool
@@ -102,7 +103,21 @@ module _ (s : List ℕ) where
   unfolding form_of
   form-numbers e f = rw (e, f)
 
+-- `contains` tells whether an `x` stands there
+module _ (s : List ℕ) where
+  abbrev pub has_x : Bool
+  has_x = list_any (λ b. eqb b letter_x) s
+
+  pub any-is : (t : Bool) → has_x ≡ t → among letter_x s ≡ t
+  any-is t e = sym (any-among letter_x s) ∙ e
+
+  pub any-x : has_x ≡ true → XTokens ≡ form_of s
+  any-x e = form-x s (any-is true e)
+
 pub form-empty : (s : List ℕ) → length s ≡ 0 → ZerosAndOnes ≡ form_of s
 unfolding form_of among front_of
 form-empty [] h = refl
 form-empty (b ∷ s) h = absurd (omega arith)
+
+-- an `x`, also where the block is lent as its own part
+pub ruleset by_block = (any-x, take_all)

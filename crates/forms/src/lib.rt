@@ -33,6 +33,7 @@ fn is_string(s: &[u8]) -> bool
     count != 1 || s[start] != b'0'
 }
 
+#[tactic(auto, using(crate::proofs::Forms::by_block))]
 pub fn form_of(block: &[u8]) -> Form
     ensures { result ≡ form_of block.now }
 {

@@ -3,12 +3,12 @@ use Rattle.std.specs.Prelude.{Option, Some, None}
 use mathlib.Core.Path.{◌≡◌, refl, sym, ap, ◌∙◌}
 use mathlib.Core.Bool.{Bool, true, false, cond}
 use mathlib.Core.List.{List, []}
-use Prim.Native.Nat.{ℕ, ◌≤◌, ◌<◌}
+use Prim.Native.Nat.{ℕ, ◌+◌, ◌-◌, ◌≤◌, ◌<◌}
 use native.Mathlib.Omega.{arith}
 use native.Mathlib.Decide.{dec_le}
 use borrow.Author.Tests.{eq-eqb, ne_eqb}
 use lib.IntN.{ℤ}
-use lib.ListN.{length}
+use lib.ListN.{length, take, drop}
 use Rattle.definitions.specs.Lists.{joined}
 use Rattle.definitions.specs.Refusal.{Checked, refuse, accept, needed}
 use Rattle.definitions.specs.Row.{Line, comment, row, row_of}
@@ -162,3 +162,29 @@ module _ (first : ℕ) (ws : List ℤ) (cs : List ℕ) (e : Entry) (pos : 0 < e.
     line-sized m t x s =
         row_sized first us ds e.kind e.bound long r q l e.count m t pos x (sym (literals-at-count (on first ws cs e) e i)) s
         ∙ is-row
+
+-- the same, by the parts of the columns as the code lends them
+module _ (first : ℕ) (ws : List ℤ) (cs : List ℕ) (e : Entry) (pos : 0 < e.kind) (g : e.kind ≤ 4)
+    (i : in_column (on first ws cs e) e ≡ true) where
+  abbrev lent : {A : Type 0} → List A → List A
+  lent l = take (e.first + e.count - e.first) (drop e.first l)
+
+  part : e.first + e.count - e.first ≡ e.count
+  part = omega arith
+
+  pub lent-refused : codes_indexed (lent cs) ≡ false → refuse 11 ≡ size_in first (line_on first ws cs e)
+  lent-refused q = line-refused first ws cs e pos g i (rw part at q)
+
+  pub lent-unnumbered : (r : Option ℕ) → codes_indexed (lent cs) ≡ true
+      → said_terms_length r ≡ terms_length first (terms_on (lent ws) (lent cs)) → r ≡ None
+      → refuse 5 ≡ size_in first (line_on first ws cs e)
+  lent-unnumbered r q l x = line-unnumbered first ws cs e pos g i r (rw part at q) (rw part at l) x
+
+  pub lent-sized : (r : Option ℕ) → codes_indexed (lent cs) ≡ true
+      → said_terms_length r ≡ terms_length first (terms_on (lent ws) (lent cs)) → (m t : ℕ) → r ≡ Some t
+      → m ≡ line_length e.kind e.count e.bound t
+      → accept (record { terms = e.count; length = m }) ≡ size_in first (line_on first ws cs e)
+  lent-sized r q l m t x s = line-sized first ws cs e pos g i r (rw part at q) (rw part at l) m t x s
+
+-- what `measure_line` comes to in each of its cases
+pub ruleset by_line = (lent-refused, lent-unnumbered, lent-sized)

@@ -25,6 +25,7 @@ pub struct Size {
 }
 
 // A row of a read kind, whose terms lie in their columns: the rest of 11, then 5.
+#[tactic(auto, using(crate::proofs::Entries::by_line))]
 fn measure_line(entry: Entry, t: Table<'_>, first: u32) -> Result<Size, Fault>
     requires { (0 < entry.kind) × (entry.kind ≤ 4) × (in_column (table_of t) entry ≡ true) }
     ensures { said_size result ≡ size_in first (line_on first t.entry.weights.now t.entry.literals.now entry) }

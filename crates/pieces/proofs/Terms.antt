@@ -12,12 +12,12 @@ use lib.ListN.{length, get_or, drop, length-drop}
 use lib.Seq.{drop-drop}
 use lib.IntN.{ℤ}
 use Rattle.definitions.specs.declared.Fault.{Fault}
-use Rattle.definitions.specs.Refusal.{fault}
+use Rattle.definitions.specs.Refusal.{fault, fault_at}
 use Rattle.definitions.specs.Bytes.{class_of, begins, blanks}
 use Rattle.definitions.specs.Reader.{none, got, more, done}
 use Rattle.definitions.specs.Number.{number}
-use Rattle.definitions.specs.Walk.{stop}
-use Rattle.definitions.specs.Row.{term}
+use Rattle.definitions.specs.Walk.{stop, bad, item}
+use Rattle.definitions.specs.Row.{Term, term}
 use Rattle.definitions.specs.Text.{gap, gap1, some_blanks, literal, after_weight, weighted, begins_term, as_step, term_step}
 use Rattle.definitions.specs.declared.Options.{Options}
 use Rattle.definitions.specs.declared.Beginning.{Beginning}
@@ -108,3 +108,17 @@ module _ (o : Options) where
     pub step-term : p ≡ Constraint → as_step (weighted o s) ≡ term_step o s
     unfolding term_step
     step-term e = rw (test-is true (ap (λ (q : Beginning). same_beginning q Constraint) e), term_step)
+
+-- where a digit or sign stands
+module _ (o : Options) (s : List ℕ) (h : length s ≡ 0 → ⊥) (b : begins (class_of (get_or s 0 0)) ≡ Constraint) where
+  step-is : as_step (weighted o s) ≡ term_step o s
+  step-is = step-term o s h (begins (class_of (get_or s 0 0))) refl b
+
+  pub step-refused : (e : Fault) → none e ≡ weighted o s → bad (fault_at 0 e) ≡ term_step o s
+  step-refused e q = ap as_step q ∙ step-is
+
+  pub step-item : (x : Term) (n : ℕ) → got x n ≡ weighted o s → item x n ≡ term_step o s
+  step-item x n q = ap as_step q ∙ step-is
+
+-- what `next_term` comes to: no byte, or a term
+pub ruleset by_next = (step-empty, step-refused, step-item)

@@ -51,6 +51,7 @@ pub fn read_term(s: &[u8], options: Options) -> Result<Term, Fault>
 }
 
 // "A digit or sign after a term begins another." Where neither stands, the sum stops: `None`.
+#[tactic(auto, using(crate::proofs::Terms::by_next))]
 pub fn next_term(s: &[u8], options: Options) -> Result<Option<Term>, Fault>
     ensures { said_next result ≡ term_step options s.now }
 {

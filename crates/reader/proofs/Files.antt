@@ -109,3 +109,19 @@ module _ (o : Options) (s : List ℕ) (t : Table) where
       by : (x : Outcome (List Line)) → reading o s t ≡ x → Ready o s t
       by (refused z) q = let y : accepted n ≡ refused z = e ∙ ap counted q in never (cc)
       by (accepted ls) q = record { given = ls; reads = q }
+
+  -- a file that is refused is refused before any room is looked at, and leaves the table as it was
+  pub refused-first : (r : Refusal) → counted (file o s) ≡ refused r → reading o s t ≡ refused r
+  unfolding reading fitted
+  refused-first r e = by (file o s) refl
+    where
+      by : (x : Outcome (List Line)) → file o s ≡ x → fitted t (file o s) ≡ refused r
+      by (refused z) q = rw (q) cc
+      by (accepted ls) q = let y : accepted _ ≡ refused r = sym (ap counted q) ∙ e in never (cc)
+
+  pub refused-after : (r : Refusal) → after (refused r) t ≡ t
+  unfolding after
+  refused-after r = refl
+
+-- what a refused file comes to
+pub ruleset by_file = (refused-first, refused-after)

@@ -6,6 +6,7 @@ use definitions::{Options, Refusal, Totals};
 
 // "Reader's order: 1; then statement by statement .. 2 to 7 ..; 8 ..; 9, then 10, once the whole file has read well."
 // How many rows and terms were read.
+#[tactic(auto, using(crate::proofs::Files::by_file))]
 pub fn parse_opb_data(
     s: &[u8],
     options: Options,

@@ -1,27 +1,17 @@
--- `blanks::until_ending_of` meets its contract. The loop's invariant: i bytes are passed and none is an LF. Assumes
--- nothing.
-use native.Mathlib.Omega.{arith}
-use Rattle.blanks.proofs.Endings.{sought-more, sought-all, sought-front, sought-cr, sought-lf}
+-- `blanks::until_ending_of` meets its contract: the first LF, and the byte before it. Assumes nothing.
+use Rattle.blanks.proofs.LfGroups.{first-cr, first-alone, first-none, first-at-front}
 use Rattle.blanks.proofs.until_ending_of.Goals as goal
-use Rattle.blanks.proofs.until_ending_of.Goals.{else-i-gt0-via-then-i-gt0+else-s-i-eq13, else-i-gt0-via-else-i-gt0}
-
-pub loop-i-init : goal.loop-i-init
-loop-i-init c = tt
+use Rattle.blanks.proofs.until_ending_of.Goals.{else-i-gt0-via-then-i-gt0+then-i-s+else-s-i-eq13, else-i-gt0-via-then-i-gt0+else-i-s, else-i-gt0-via-else-i-gt0}
 
 pub returns-then-s-i-eq13 : goal.returns-then-s-i-eq13
-returns-then-s-i-eq13 c =
-    sought-cr _ _ c.loop-i.invariant (omega arith) c.if-b-eq10.true (omega arith) c.if-s-i-eq13.true
-
-pub returns-then-b-eq10 : goal.returns-then-b-eq10
-returns-then-b-eq10 c =
-    elim c.else-i-gt0.branch [
-      | else-i-gt0-via-then-i-gt0+else-s-i-eq13 w ↦ sought-lf _ _ c.loop-i.invariant (omega arith) c.if-b-eq10.true (omega arith) w.if-s-i-eq13.false
-      | else-i-gt0-via-else-i-gt0 w ↦ sought-front _ _ (omega arith) c.if-b-eq10.true (omega arith)
-    ]
-
-pub loop-i-preserved : goal.loop-i-preserved
-loop-i-preserved c =
-    sought-more _ _ c.loop-i.invariant (omega arith) c.if-b-eq10.false
+returns-then-s-i-eq13 c = first-cr c.args.s.now c.first_lf-i.result c.first_lf-i.ensures c.if-i-s.true c.if-i-gt0.true c.if-s-i-eq13.true
 
 pub returns : goal.returns
-returns c = sought-all _ c.loop-i.i c.loop-i.invariant (omega arith)
+returns c =
+    let s = c.args.s.now in
+    let i = c.first_lf-i.result in
+    elim c.else-i-gt0.branch [
+      | else-i-gt0-via-then-i-gt0+then-i-s+else-s-i-eq13 w ↦ first-alone s i c.first_lf-i.ensures w.if-i-s.true w.if-i-gt0.true w.if-s-i-eq13.false
+      | else-i-gt0-via-then-i-gt0+else-i-s w ↦ first-none s i c.first_lf-i.ensures w.if-i-s.false
+      | else-i-gt0-via-else-i-gt0 w ↦ first-at-front s i c.first_lf-i.ensures w.if-i-gt0.false
+    ]
