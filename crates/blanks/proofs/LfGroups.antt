@@ -24,6 +24,11 @@ use Rattle.blanks.proofs.Endings.{Sought, sought-more, sought-all, sought-front,
 pub none-more : (s : List ℕ) (i : ℕ) → NoLf s i → (get_or s i 0 ≡ lf → ⊥) → NoLf s (i + 1)
 none-more s i n h k l b = ⊎_elim (λ a. n k a b) (λ a. h (ap (λ j. get_or s j 0) (omega arith) ∙ b)) (cases_lt k i)
 
+-- ---- k bytes more that have none, as they stand in a part t of the text
+none-both : (s t : List ℕ) (i k : ℕ) → NoLf s i → ((m : ℕ) → i ≤ m → m < i + k → get_or s m 0 ≡ get_or t (m - i) 0) → NoLf t k
+    → NoLf s (i + k)
+none-both s t i k n at f m l b = ⊎_elim (λ a. n m a b) (λ a. f (m - i) (omega arith) (sym (at m a l) ∙ b)) (cases_lt m i)
+
 -- ---- a group of n bytes, r of which come before its first LF
 module _ (group : List ℕ) (n r : ℕ) (g : length group ≡ n) (counted : r ≡ prefix_len (λ b. not (eqb b lf)) (chunk 0 n group)) where
   abbrev is_lf : ℕ → Bool
@@ -73,11 +78,7 @@ module _ (s left group rest : List ℕ) (i n : ℕ) (p : Clear s left i) (e : le
   found-in k h f =
       record {
         within = omega (arith, clear-within);
-        none = λ m l b.
-            ⊎_elim
-            (λ a. p.none m a b)
-            (λ a. f.none (m - i) (omega arith) (sym (in-group m a (omega arith)) ∙ b))
-            (cases_lt m i);
+        none = none-both s group i k p.none (λ m a l. in-group m a (omega arith)) f.none;
         is = λ l. in-group (i + k) (omega arith) (omega arith) ∙ ap (λ m. get_or group m 0) (omega arith) ∙ f.is (omega (arith, g));
       }
 
@@ -86,11 +87,7 @@ module _ (s left group rest : List ℕ) (i n : ℕ) (p : Clear s left i) (e : le
       record {
         within = clear-within;
         behind = clear-behind;
-        none = λ m l b.
-            ⊎_elim
-            (λ a. p.none m a b)
-            (λ a. f.none (m - i) (omega arith) (sym (in-group m a l) ∙ b))
-            (cases_lt m i);
+        none = none-both s group i n p.none in-group (λ m l. f.none m (omega arith));
       }
 
 -- ---- what is left behind p bytes without an LF
@@ -109,13 +106,7 @@ module _ (s : List ℕ) (p : ℕ) where
   first-behind k h n f =
       record {
         within = omega (arith, f.within, length-left);
-        none = λ m l b.
-            ⊎_elim
-            (λ a. n m a b)
-            (λ a.
-            let e : get_or left (m - p) 0 ≡ get_or s m 0 = left-at (m - p) ∙ ap (λ j. get_or s j 0) (omega arith) in
-            f.none (m - p) (omega arith) (e ∙ b))
-            (cases_lt m p);
+        none = none-both s left p k n (λ m a l. sym (left-at (m - p) ∙ ap (λ j. get_or s j 0) (omega arith))) f.none;
         is = λ l. sym (left-at k) ∙ f.is (omega (arith, length-left));
       }
 

@@ -2,14 +2,15 @@
 -- has left stands behind them, to be had in groups of 16. Assumes nothing.
 use mathlib.Core.Path.{ap, ◌∙◌}
 use native.Mathlib.Omega.{arith}
+use Rattle.std.specs.Slice.Iter.{chunks_exact_rest, chunks_exact_size}
 use Rattle.blanks.proofs.LfGroups.{clear-start, clear-within, found-in, clear-more, first-behind}
 use Rattle.blanks.proofs.first_lf.Goals as goal
 
 pub loop-group-init : goal.loop-group-init
 loop-group-init c =
     let e = c.into_iter-group-iterator.ensures.into_iter_gives in (
-      clear-start _ _ (ap (λ i. i.rest.now) e ∙ c.chunks_exact-group-items.ensures.rest),
-      ap (λ i. i.size) e ∙ c.chunks_exact-group-items.ensures.size,
+      clear-start _ _ (ap chunks_exact_rest e ∙ c.chunks_exact-group-items.ensures.rest),
+      ap chunks_exact_size e ∙ c.chunks_exact-group-items.ensures.size,
     )
 
 pub overflow_add-result : goal.overflow_add-result
